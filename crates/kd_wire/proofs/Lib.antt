@@ -1,0 +1,11 @@
+pub mod Lengths
+pub mod ItemsRead
+pub mod WordLaws
+pub mod ItemLaws
+pub mod Parts
+pub mod FrameLaws
+pub mod Accepted
+pub mod ReplyLaws
+pub mod ReadAgain
+pub mod Rows
+pub mod RepliesAgain

@@ -1,0 +1,11 @@
+pub mod Opcodes
+pub mod Ports
+pub mod Items
+pub mod Commands
+pub mod Frames
+pub mod Replies
+pub mod Kinds
+pub mod Reading
+pub mod Refusals
+pub mod ReplyReading
+pub mod Typed

@@ -1,0 +1,151 @@
+//! What a caller asks of the bus.
+
+ghost use Rattle.std.specs.Prelude.{◌≡◌};
+ghost use Rattle.kd_wire.specs.Commands.{opcode_in, flags_of};
+
+use crate::item::WireItems;
+use crate::opcode::Opcode;
+use kd_types::{
+    Blob, Cookie, Creds, HelloFlags, ListFlags, Moment, NameFlags, RecvFlags, SendFlags, Text,
+};
+
+/// A command, after the commands of the manual page kdbus. It keeps its items in the order of its frame, so that it has
+/// one spelling.
+#[derive(Debug, Drop)]
+pub enum Command {
+    /// Makes a connection, with a pool of so many bytes. The masks tell which metadata it sends and wants to receive.
+    Hello {
+        flags: HelloFlags,
+        pool: u32,
+        send_mask: u64,
+        receive_mask: u64,
+        items: WireItems,
+    },
+    /// Sends a message to the connection `dst`, to the owner of the name among the items where `dst` is 0, or to all
+    /// whose rules admit it where `dst` is all ones. The last word is a deadline, or the cookie that is answered.
+    Send {
+        flags: SendFlags,
+        priority: i64,
+        dst: u64,
+        source: u64,
+        payload_type: u64,
+        cookie: u64,
+        last: u64,
+        items: WireItems,
+    },
+    /// Receives, peeks at or drops the next message; with a flag, of at least this priority.
+    Recv {
+        flags: RecvFlags,
+        limit: i64,
+    },
+    /// Reads the slice of this number, or the sealed bytes that it shares.
+    Read {
+        sealed: bool,
+        number: u64,
+    },
+    /// Gives a received slice back.
+    Free {
+        number: u64,
+    },
+    /// Ends the connection unless messages wait.
+    Byebye,
+    /// Ends whatever the caller is.
+    Close,
+    /// Asks to own a name.
+    NameAcquire {
+        flags: NameFlags,
+        name: Text,
+    },
+    /// Gives up a name, or the place in its queue.
+    NameRelease {
+        name: Text,
+    },
+    /// Lists connections and names.
+    NameList {
+        flags: ListFlags,
+    },
+    /// Adds a rule of these conditions; with `replace`, in place of those of its cookie.
+    MatchAdd {
+        replace: bool,
+        cookie: Cookie,
+        items: WireItems,
+    },
+    /// Removes the rules of a cookie.
+    MatchRemove {
+        cookie: Cookie,
+    },
+    /// Replaces the caller's policy.
+    PolicySet {
+        items: WireItems,
+    },
+    /// Makes a custom endpoint with a policy.
+    EndpointMake {
+        items: WireItems,
+    },
+    /// Makes a bus with Bloom filters of `size` bytes and so many hashes.
+    MakeBus {
+        size: u32,
+        hashes: u32,
+        bus: Text,
+    },
+    /// Moves the bus's clock on to this moment.
+    Tick {
+        moment: Moment,
+    },
+    /// Seals bytes.
+    Seal {
+        payload: Blob,
+    },
+    /// Gives a seal up.
+    Unseal {
+        number: u64,
+    },
+    /// Says who a replay's caller is.
+    Enter {
+        creds: Creds,
+    },
+}
+
+impl Command {
+    /// Which command it is.
+    pub fn opcode(&self) -> Opcode
+        ensures { result ≡ opcode_in self.now }
+    {
+        match self {
+            Command::Hello { .. } => Opcode::Hello,
+            Command::Send { .. } => Opcode::Send,
+            Command::Recv { .. } => Opcode::Recv,
+            Command::Read { .. } => Opcode::Read,
+            Command::Free { .. } => Opcode::Free,
+            Command::Byebye => Opcode::Byebye,
+            Command::Close => Opcode::Close,
+            Command::NameAcquire { .. } => Opcode::NameAcquire,
+            Command::NameRelease { .. } => Opcode::NameRelease,
+            Command::NameList { .. } => Opcode::NameList,
+            Command::MatchAdd { .. } => Opcode::MatchAdd,
+            Command::MatchRemove { .. } => Opcode::MatchRemove,
+            Command::PolicySet { .. } => Opcode::PolicySet,
+            Command::EndpointMake { .. } => Opcode::EndpointMake,
+            Command::MakeBus { .. } => Opcode::MakeBus,
+            Command::Tick { .. } => Opcode::Tick,
+            Command::Seal { .. } => Opcode::Seal,
+            Command::Unseal { .. } => Opcode::Unseal,
+            Command::Enter { .. } => Opcode::Enter,
+        }
+    }
+
+    /// The flags word of its frame.
+    pub fn flags(&self) -> u64
+        ensures { result ≡ flags_of self.now }
+    {
+        match self {
+            Command::Hello { flags, .. } => flags.word(),
+            Command::Recv { flags, .. } => flags.word(),
+            Command::Read { sealed, .. } => u64::from(*sealed),
+            Command::NameAcquire { flags, .. } => flags.word(),
+            Command::NameList { flags } => flags.word(),
+            Command::MatchAdd { replace, .. } => u64::from(*replace),
+            _ => 0,
+        }
+    }
+}
