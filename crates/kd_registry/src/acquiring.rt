@@ -1,0 +1,126 @@
+//! Acquiring names, as an ordinary connection and as an activator.
+
+ghost use Rattle.std.specs.Prelude.{◌≡◌, ◌<◌, ◌&&◌, not, nat_le, length};
+ghost use Rattle.kd_model.specs.Words.{some_of};
+ghost use Rattle.kd_registry.specs.Claims.{acquired, activator_answer, after_activator, asked, claim_of, held, is_of, judged};
+
+use crate::claim::{Claim, Stake, Verdict};
+use crate::edits::{put_in_queue, put_last, take};
+use crate::registry::{CLAIM_LIMIT, Registry};
+use crate::search::{has_activator, has_claim, held, ranks};
+use kd_name::is_name;
+use kd_types::{ConnId, NameFlags, Refusal, Text};
+
+/// What an acquire is answered, by the claims on the name. `is_over` says that the connection has none of
+/// them and can't have one more.
+fn judge(ranks: &[Claim], id: ConnId, flags: NameFlags, is_over: bool) -> Result<Verdict, Refusal>
+    ensures { result ≡ judged id flags is_over ranks.now }
+{
+    let [owner, ..] = ranks else {
+        if is_over {
+            return Err(Refusal::TooMany { limit: 64 });
+        }
+        return Ok(Verdict::Owner {
+            old: ConnId(0),
+            activator: None,
+        });
+    };
+    if owner.id == id {
+        return Err(Refusal::AlreadyOwned);
+    }
+    if is_over {
+        return Err(Refusal::TooMany { limit: 64 });
+    }
+    if !owner.is_ordinary() {
+        return Ok(Verdict::Owner {
+            old: owner.id,
+            activator: Some(owner.id),
+        });
+    }
+    if owner.allows() && flags.replaces() {
+        return Ok(Verdict::Owner {
+            old: owner.id,
+            activator: None,
+        });
+    }
+    if flags.queues() {
+        return Ok(Verdict::Queued);
+    }
+    Err(Refusal::NameTaken)
+}
+
+/// Whether a connection without a claim on a name has as many others as it may have.
+fn is_over(claims: &[Claim], ranks: &[Claim], id: ConnId) -> bool
+    ensures { result ≡ (not (some_of (is_of id) ranks.now) && nat_le 64 (held claims.now id)) }
+{
+    !has_claim(ranks, id) && held(claims, id) >= CLAIM_LIMIT
+}
+
+impl Registry {
+    /// What [`Registry::acquire`] would be answered.
+    pub fn ask(&self, id: ConnId, name: &[u8], flags: NameFlags) -> Result<Verdict, Refusal>
+        ensures { result ≡ asked self.now id name.now flags }
+    {
+        if !is_name(name) {
+            return Err(Refusal::BadName);
+        }
+        let mine = ranks(&self.claims, name);
+        judge(mine, id, flags, is_over(&self.claims, mine, id))
+    }
+
+    /// An ordinary connection asks for a name. The first of these cases that holds decides: the text is no
+    /// name, BadName; the connection is the owner, AlreadyOwned; it has [`CLAIM_LIMIT`] claims and none on
+    /// this name, TooMany; nobody but an activator claims the name, and it becomes the owner; the owner
+    /// allows to be replaced and the connection asks to replace, and it becomes the owner; it asks to queue,
+    /// and it is queued; NameTaken.
+    pub fn acquire(&mut self, id: ConnId, name: Text, flags: NameFlags) -> Result<Verdict, Refusal>
+        // A connection that may have one more claim finds room for it.
+        requires room { held self.old id < 64 → length self.old < 4160 }
+        ensures answer { result ≡ asked self.old id name flags }
+        ensures after { self.new ≡ acquired self.old (claim_of id name flags) result }
+    {
+        let verdict = self.ask(id, name.bytes(), flags)?;
+        let claim = Claim {
+            name,
+            id,
+            stake: Stake::Ordinary(flags),
+        };
+        match verdict {
+            Verdict::Owner { .. } => take(&mut self.claims, claim),
+            Verdict::Queued => put_in_queue(&mut self.claims, claim),
+        }
+        Ok(verdict)
+    }
+
+    /// What [`Registry::set_activator`] would be answered.
+    pub fn may_activate(&self, name: &[u8]) -> Result<(), Refusal>
+        ensures { result ≡ activator_answer self.now name.now }
+    {
+        if !is_name(name) {
+            return Err(Refusal::BadName);
+        }
+        if has_activator(ranks(&self.claims, name)) {
+            return Err(Refusal::NameTaken);
+        }
+        Ok(())
+    }
+
+    /// Makes the connection the activator of the name: BadName where the text is no name, NameTaken where
+    /// the name has an activator.
+    pub fn set_activator(&mut self, id: ConnId, name: Text) -> Result<(), Refusal>
+        requires room { length self.old < 4160 }
+        ensures answer { result ≡ activator_answer self.old name }
+        ensures after { self.new ≡ after_activator self.old id name result }
+    {
+        self.may_activate(name.bytes())?;
+        put_last(
+            &mut self.claims,
+            Claim {
+                name,
+                id,
+                stake: Stake::Activator,
+            },
+        );
+        Ok(())
+    }
+}

@@ -1,0 +1,28 @@
+//! Who owns which well-known name, after kdbus.name.
+//!
+//! Connections claim names. The claims on a name have ranks: the first is the owner's, the others wait in
+//! the queue. An activator is a placeholder that owns its name while no ordinary connection claims it, so
+//! its claim stands behind all others.
+//!
+//! All claims stand in one vector, by name in byte order and then by rank. It is made with room for every
+//! claim that a bus can have, so no call that acquires or releases takes memory; a name is found by binary
+//! search.
+//!
+//! ```text
+//!            a.b   a.b   a.b       c.d          x.y
+//!           ┌─────┬─────┬─────────┬────────────┬─────┐
+//!   claims  │ 7   │ 3   │ 9 (act) │ 12 (act)   │ 3   │      7 owns a.b, 3 is queued behind it
+//!           └─────┴─────┴─────────┴────────────┴─────┘      12 owns c.d as its activator
+//! ```
+#![tactic(auto)]
+
+mod acquiring;
+mod claim;
+mod edits;
+mod listing;
+mod registry;
+mod releasing;
+mod search;
+
+pub use claim::{Change, Claim, Listed, Stake, Verdict};
+pub use registry::{CLAIM_LIMIT, ROOM, Registry};
