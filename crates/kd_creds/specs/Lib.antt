@@ -1,0 +1,4 @@
+pub mod Numbers
+pub mod BusNames
+pub mod Lines
+pub mod Listen

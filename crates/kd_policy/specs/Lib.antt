@@ -1,0 +1,5 @@
+pub mod Level
+pub mod Order
+pub mod Policy
+pub mod Granted
+pub mod Marks
