@@ -1,0 +1,7 @@
+pub mod Joined
+pub mod Sets
+pub mod RowsBloom
+pub mod Packs
+pub mod Marks
+pub mod Masks
+pub mod Law
