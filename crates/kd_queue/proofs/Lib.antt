@@ -1,0 +1,4 @@
+mod Rows
+pub mod Least
+pub mod Numbers
+pub mod Waits

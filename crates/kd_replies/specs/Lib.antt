@@ -1,0 +1,4 @@
+pub mod Order
+pub mod Renaming
+pub mod Requests
+pub mod Room
