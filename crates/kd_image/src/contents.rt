@@ -1,0 +1,32 @@
+//! Reading the items of a message.
+
+ghost use Rattle.std.specs.Prelude.{◌≡◌, ◌≢◌, ◌+◌, Ok, Err, length, IfOk, IfErr};
+ghost use Rattle.kd_image.specs.Reading.{contents_in};
+
+use crate::draft::Draft;
+use crate::first::first_item;
+use kd_types::ReplyError;
+use std::alloc::Global;
+
+/// What the items behind the header say, or where they break the format. Size is what the header says of header and
+/// items.
+pub(crate) fn read_contents(alloc: Global, size: u64, area: &[u8]) -> Result<Draft, ReplyError>
+    requires { 64 + length area.now ≡ size }
+    ensures read { IfOk result (λ d. contents_in size area.now ≡ Ok d) }
+    ensures refused { IfErr result (λ e. e ≢ ReplyError.OutOfMemory → contents_in size area.now ≡ Err e) }
+{
+    let mut draft = Draft::blank(alloc);
+    let mut rest = area;
+    let mut at = 64;
+    'items: while !rest.is_empty() {
+        let Some((item, taken)) = first_item(rest) else {
+            return Err(ReplyError::Bad { at });
+        };
+        if !draft.add(alloc, size, item)? {
+            return Err(ReplyError::Bad { at });
+        }
+        rest = rest.split_at(taken).1;
+        at += taken as u64;
+    }
+    Ok(draft)
+}
