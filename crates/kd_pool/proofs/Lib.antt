@@ -1,0 +1,10 @@
+pub mod Kept
+pub mod Offers
+pub mod Picks
+pub mod Publishes
+pub mod Receives
+pub mod RowsPool
+pub mod Shares
+pub mod Sweeps
+pub mod Views
+pub mod Writes

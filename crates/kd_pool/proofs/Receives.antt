@@ -1,0 +1,37 @@
+-- What a receive comes to, case by case.
+use Rattle.std.specs.Prelude.{◌≡◌, ℕ, Bool, true, false, List, Option, Some, None, refl, ℤ}
+use Rattle.std.proofs.Common.{ap, ◌∙◌}
+use Rattle.kd_types.specs.declared.refusal.Refusal.TheVariants.{NoMessage, NoSuchPriority}
+use Rattle.kd_model.proofs.Lists.{all_of_filter}
+use Rattle.kd_model.proofs.Least.{all_of_least}
+use Rattle.kd_model.specs.Words.{some_of, those}
+use Rattle.kd_pool.proofs.Kept.{each_among}
+use Rattle.kd_pool.specs.State.{Answer, Pool, goes_before, got, has_number, is_earlier, is_waiting, is_within, refused, slots}
+use Rattle.kd_pool.specs.Steps.{after_taking, next, receive_step, with_dropped, with_phase, without}
+use Rattle.kd_pool.specs.declared.slot.Phase.TheVariants.{Handed, Peeked}
+use Rattle.kd_pool.specs.declared.receive.RecvMode.{RecvMode}
+use Rattle.kd_pool.specs.declared.slot.Slot.{Slot}
+
+-- by the slot that is next, if any, and by whether any waits
+pub receives : (mode : RecvMode) (p : Pool) (ss : List Slot) (o : Option Slot) (b : Bool) → slots p ≡ ss → next ss mode.limit ≡ o → some_of is_waiting ss ≡ b
+    → receive_step mode p ≡ elim o [ Some s ↦ (with_dropped 0 (after_taking mode s.number p), got s.number s.offset s.len p.dropped) | None ↦ elim b [ true ↦ (p, refused NoSuchPriority) | false ↦ (with_dropped 0 p, refused (NoMessage p.dropped)) ] ]
+unfolding receive_step
+receives mode p ss o b e n w =
+    ap (λ x. told x (some_of is_waiting (slots p))) (ap (λ xs. next xs mode.limit) e ∙ n) ∙ ap (told o) (ap (some_of is_waiting) e ∙ w)
+  where
+    told : Option Slot → Bool → Pool × Answer
+    told o b = elim o [ Some s ↦ (with_dropped 0 (after_taking mode s.number p), got s.number s.offset s.len p.dropped) | None ↦ elim b [ true ↦ (p, refused NoSuchPriority) | false ↦ (with_dropped 0 p, refused (NoMessage p.dropped)) ] ]
+
+-- the slot that is next is in the table
+pub next_among : (ss : List Slot) (limit : Option ℤ) (s : Slot) → next ss limit ≡ Some s → some_of (has_number s.number) ss ≡ true
+unfolding next
+next_among ss None s h = all_of_least (λ (x : Slot). some_of (has_number x.number) ss ≡ true) is_earlier (those is_waiting ss) s (all_of_filter _ is_waiting ss (each_among ss)) h
+next_among ss (Some limit) s h = all_of_least (λ (x : Slot). some_of (has_number x.number) ss ≡ true) goes_before (those (is_within limit) ss) s (all_of_filter _ (is_within limit) ss (each_among ss)) h
+
+-- counting anew and taking the slice go in either order
+pub takes_either_way : (mode : RecvMode) (n : ℕ) (p : Pool) → with_dropped 0 (after_taking mode n p) ≡ after_taking mode n (with_dropped 0 p)
+takes_either_way mode n p = go mode.drop_it
+  where
+    go : (b : Bool) → with_dropped 0 (elim b [ true ↦ without n p | false ↦ with_phase (elim mode.peek [ true ↦ Peeked | false ↦ Handed ]) n p ]) ≡ elim b [ true ↦ without n (with_dropped 0 p) | false ↦ with_phase (elim mode.peek [ true ↦ Peeked | false ↦ Handed ]) n (with_dropped 0 p) ]
+    go true = refl
+    go false = refl

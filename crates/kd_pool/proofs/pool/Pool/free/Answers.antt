@@ -1,0 +1,10 @@
+-- The refusal goes by the table.
+use Rattle.std.proofs.Common.{sym, ◌∙◌}
+use Rattle.kd_pool.proofs.Views.{slots_shown}
+use Rattle.kd_pool.proofs.pool.Pool.free.Goals as goal
+
+pub returns-in-Some-clause-refused : goal.returns-in-Some-clause-refused
+returns-in-Some-clause-refused c = rw (← c.self.view_is, slots_shown c.self.inside.memory.items c.self.inside.slots.items, ← c.deref.ensures.value) (sym c.why_not_freed.ensures ∙ c.in-Some.is)
+
+pub returns-clause-ok : goal.returns-clause-ok
+returns-clause-ok c = rw (← c.self.view_is, slots_shown c.self.inside.memory.items c.self.inside.slots.items, ← c.deref.ensures.value) (sym c.why_not_freed.ensures ∙ c.in_default.is)

@@ -1,0 +1,7 @@
+-- What the search for a gap asks.
+use Rattle.std.specs.Prelude.{ℕ, Bool, nat_le}
+use Rattle.kd_model.specs.declared.placed.Gap.{Gap}
+
+-- whether a gap holds a length
+abbrev pub holds : ℕ → Gap → Bool
+holds len g = nat_le len g.len
