@@ -1,0 +1,82 @@
+-- One entry more at the end of a list, and who has a seat.
+use Rattle.std.proofs.Common.{◌≡◌, ℕ, zero, suc, ◌+◌, ◌<◌, ◌≢◌, ◌==◌, Bool, true, false, cond, List, [], ◌∷◌, ◌++◌, filter, eqb, eqb-true, eq-eqb, ne_eqb, subst, sym, refl, ap, ◌∙◌, arith, append_assoc}
+use Rattle.std.specs.Prelude.{Option, Some, None}
+use Rattle.std.proofs.lemmas.List.{append-nil}
+use mathlib.Core.Logic.{dite}
+use native.Mathlib.Decide.{ℕ_discrete}
+use Rattle.kd_turn.specs.Lists.{made_by, is_at}
+use Rattle.kd_toy_bus.specs.declared.act.Slip.{Slip}
+use Rattle.kd_toy_bus.specs.declared.act.Act.{Act}
+use Rattle.kd_toy_bus.specs.declared.act.Act.TheVariants.{Join, Leave, Send, Raise, Close, Offer, Receive, Idle}
+use Rattle.kd_toy_bus.specs.declared.locked.Pool.{Pool}
+use Rattle.kd_toy_bus.specs.Bus.{act_of, pool_after, pool_from, keeps, kept_from, IsFair, AreFair, sits, seated_from, Part, part_at, parts, made_by_one, made, opened_at}
+
+pub pool_snoc : (p : Pool) (xs : List (ℕ × Slip)) (x : ℕ × Slip) → pool_from p (xs ++ x ∷ []) ≡ pool_after (act_of x.1) (pool_from p xs)
+pool_snoc p [] x = refl
+pool_snoc p (y ∷ ys) x = pool_snoc (pool_after (act_of y.1) p) ys x
+
+pub kept_snoc : (c : ℕ) (k : Option ℕ) (xs : List (ℕ × Slip)) (x : ℕ × Slip) → kept_from c k (xs ++ x ∷ []) ≡ keeps c x.0 (act_of x.1) (kept_from c k xs)
+kept_snoc c k [] x = refl
+kept_snoc c k (y ∷ ys) x = kept_snoc c (keeps c y.0 (act_of y.1) k) ys x
+
+pub fair_snoc : (c : ℕ) (k : Option ℕ) (xs : List (ℕ × Slip)) (x : ℕ × Slip) → AreFair c k xs → IsFair c x.0 (act_of x.1) (kept_from c k xs) → AreFair c k (xs ++ x ∷ [])
+fair_snoc c k [] x fair one = (one, tt)
+fair_snoc c k (y ∷ ys) x fair one = (fair.0, fair_snoc c (keeps c y.0 (act_of y.1) k) ys x fair.1 one)
+
+pub seated_snoc : (c : ℕ) (b : Bool) (xs : List (ℕ × Slip)) (x : ℕ × Slip) → seated_from c b (xs ++ x ∷ []) ≡ sits c (act_of x.1) (seated_from c b xs)
+seated_snoc c b [] x = refl
+seated_snoc c b (y ∷ ys) x = seated_snoc c (sits c (act_of y.1) b) ys x
+
+pub made_snoc : (xs : List (ℕ × Slip)) (x : ℕ × Slip) → made (xs ++ x ∷ []) ≡ made xs ++ made_by_one (act_of x.1)
+made_snoc [] x = append-nil (made_by_one (act_of x.1))
+made_snoc (y ∷ ys) x = ap (λ zs. made_by_one (act_of y.1) ++ zs) (made_snoc ys x) ∙ sym (append_assoc (made_by_one (act_of y.1)) (made ys) (made_by_one (act_of x.1)))
+
+pub parts_snoc : (c : ℕ) (xs : List (ℕ × Slip)) (x : ℕ × Slip) → parts c (xs ++ x ∷ []) ≡ parts c xs ++ part_at c (act_of x.1)
+parts_snoc c [] x = append-nil (part_at c (act_of x.1))
+parts_snoc c (y ∷ ys) x = ap (λ zs. part_at c (act_of y.1) ++ zs) (parts_snoc c ys x) ∙ sym (append_assoc (part_at c (act_of y.1)) (parts c ys) (part_at c (act_of x.1)))
+
+pub opened_snoc : (l : ℕ) (xs : List (ℕ × ℕ × Slip)) (x : ℕ × ℕ × Slip) → opened_at l (xs ++ x ∷ []) ≡ opened_at l xs ++ cond (x.0 == l) (made_by_one (act_of x.2)) []
+opened_snoc l [] x = append-nil (cond (x.0 == l) (made_by_one (act_of x.2)) [])
+opened_snoc l (y ∷ ys) x = ap (λ zs. cond (y.0 == l) (made_by_one (act_of y.2)) [] ++ zs) (opened_snoc l ys x) ∙ sym (append_assoc (cond (y.0 == l) (made_by_one (act_of y.2)) []) (opened_at l ys) (cond (x.0 == l) (made_by_one (act_of x.2)) []))
+
+-- a pass's own entries tell whether it has the seat
+pub cond_same : {A : Type 0} (b : Bool) (x y : A) → (b ≡ true → x ≡ y) → cond b x y ≡ y
+cond_same true x y h = h refl
+cond_same false x y h = refl
+
+at_cond : (j : ℕ) (b : Bool) (o k : Option ℕ) → is_at j (cond b o k) ≡ cond b (is_at j o) (is_at j k)
+at_cond j true o k = refl
+at_cond j false o k = refl
+
+keeps_mine : (c j : ℕ) (a : Act) (k : Option ℕ) → is_at j (keeps c j a k) ≡ sits c a (is_at j k)
+keeps_mine c j (Join s) k = at_cond j (s == c) (Some j) k ∙ ap (λ t. cond (s == c) t (is_at j k)) (eq-eqb j j refl)
+keeps_mine c j (Leave s) k = at_cond j (s == c) None k
+keeps_mine c j (Send s) k = refl
+keeps_mine c j Raise k = refl
+keeps_mine c j Close k = refl
+keeps_mine c j (Offer b) k = refl
+keeps_mine c j Receive k = refl
+keeps_mine c j Idle k = refl
+
+keeps_other : (c j i : ℕ) (a : Act) (k : Option ℕ) → i ≢ j → IsFair c i a k → is_at j (keeps c i a k) ≡ is_at j k
+keeps_other c j i (Join s) k ne fair = at_cond j (s == c) (Some i) k ∙ cond_same (s == c) (is_at j (Some i)) (is_at j k) (λ t. ne_eqb i j ne ∙ sym (ap (is_at j) (fair t)))
+keeps_other c j i (Leave s) k ne fair = at_cond j (s == c) None k ∙ cond_same (s == c) (is_at j None) (is_at j k) (λ t. sym (ap (is_at j) (fair t) ∙ ne_eqb i j ne))
+keeps_other c j i (Send s) k ne fair = refl
+keeps_other c j i Raise k ne fair = refl
+keeps_other c j i Close k ne fair = refl
+keeps_other c j i (Offer b) k ne fair = refl
+keeps_other c j i Receive k ne fair = refl
+keeps_other c j i Idle k ne fair = refl
+
+pub seated_is : (c j : ℕ) (k : Option ℕ) (xs : List (ℕ × Slip)) → AreFair c k xs → is_at j (kept_from c k xs) ≡ seated_from c (is_at j k) (made_by j xs)
+seated_is c j k [] fair = refl
+seated_is c j k (x ∷ xs) fair =
+    let k' : Option ℕ = keeps c x.0 (act_of x.1) k in
+    let ih = seated_is c j k' xs fair.1 in
+    dite (ℕ_discrete x.0 j)
+    (λ e. ih ∙ (ap (λ b. seated_from c b (made_by j xs)) (ap (λ (i : ℕ). is_at j (keeps c i (act_of x.1) k)) e ∙ keeps_mine c j (act_of x.1) k) ∙ sym (ap (λ b. seated_from c (is_at j k) (cond b (x ∷ made_by j xs) (made_by j xs))) (eq-eqb x.0 j e))))
+    (λ ne. ih ∙ (ap (λ b. seated_from c b (made_by j xs)) (keeps_other c j x.0 (act_of x.1) k ne fair.0) ∙ sym (ap (λ b. seated_from c (is_at j k) (cond b (x ∷ made_by j xs) (made_by j xs))) (ne_eqb x.0 j ne))))
+
+pub at_is : (j : ℕ) (k : Option ℕ) → is_at j k ≡ true → k ≡ Some j
+at_is j None e = absurd cc
+at_is j (Some i) e = ap (λ (n : ℕ). Some n) (eqb-true i j e)

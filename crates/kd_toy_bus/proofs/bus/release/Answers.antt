@@ -1,0 +1,7 @@
+use Rattle.std.proofs.Common.{◌≡◌, ℕ, ◌+◌, ap, ◌∙◌}
+use Rattle.kd_turn.specs.Lists.{has, hand}
+use Rattle.kd_turn.proofs.Hands.{gone_from}
+use Rattle.kd_toy_bus.proofs.bus.release.Goals as goal
+
+pub returns-clause-gone : goal.returns-clause-gone
+returns-clause-gone c = ap (has 200) c.mark.ensures.marked.hand_is ∙ gone_from 200 (hand c.args.pass.now.view (c.args.seat + 1))

@@ -1,0 +1,143 @@
+//! The calls of the bus.
+ghost use Rattle.std.specs.Prelude.{◌≡◌, ℕ, ◌+◌, ◌^◌, ◌<◌, ◌≤◌, true, false, [], ◌∷◌, IsTrue, IsFalse, slice_index};
+ghost use Rattle.kd_turn.specs.Lists.{part, hand, has, has_bit};
+ghost use Rattle.kd_toy_bus.specs.Bus.{IsIdle, is_seated, offered as pool_offered};
+
+use crate::act::{Act, Slip};
+use crate::locked::{Locked, Pool, SLICE};
+use kd_turn::gate::Gate;
+use kd_turn::pass::Pass;
+use std::sync::Wait;
+
+/// Whether the marks have the slice: number 200 is bit 8 of word 3.
+fn has_slice(marks: &[u64; 4]) -> bool
+    ensures { result ≡ has_bit 200 (slice_index marks.now 3) }
+{
+    marks[3] / 256 % 2 == 1
+}
+
+/// The pool after an offer, where the sweep before it had the slice or not.
+fn offered(pool: Pool, swept: bool) -> Pool
+    ensures { result ≡ pool_offered swept pool }
+{
+    match pool {
+        Pool::Closed => Pool::Closed,
+        Pool::Free => Pool::Placed,
+        Pool::Placed => Pool::Placed,
+        Pool::Handed => { if swept { Pool::Placed } else { Pool::Handed } }
+    }
+}
+
+/// Whether a slice was offered, and not yet received.
+fn is_placed(pool: Pool) -> bool
+    ensures { IsTrue result → pool ≡ Pool.Placed }
+{
+    match pool {
+        Pool::Placed => true,
+        Pool::Closed | Pool::Free | Pool::Handed => false,
+    }
+}
+
+/// Takes the seat, if nobody has it.
+pub fn join<R: Wait>(rt: &R, gate: &Gate<Locked>, pass: &mut Pass<Locked>, seat: u32) -> bool
+    requires idle { IsIdle gate.now pass.old }
+    requires seat { seat < 3 }
+    requires turns { pass.old.view.turns + 2 ≤ 2 ^ 43 }
+    ensures idle { IsIdle gate.now pass.new }
+    ensures seated { IsTrue result → is_seated seat (part pass.new.view 0).own ≡ true }
+    ensures turns { pass.new.view.turns ≤ pass.old.view.turns + 2 }
+{
+    let Locked::Desk(mut desk) = pass.take(rt, gate, 0) else {
+        unreachable!()
+    };
+    if desk.taken[seat as usize] {
+        pass.put(gate, 0, Locked::Desk(desk), Slip::of(Act::Idle));
+        return false;
+    }
+    let Locked::Pool(_) = pass.take(rt, gate, seat + 1) else {
+        unreachable!()
+    };
+    pass.sweep(gate, seat + 1);
+    pass.put(
+        gate,
+        seat + 1,
+        Locked::Pool(Pool::Free),
+        Slip::of(Act::Raise),
+    );
+    desk.taken[seat as usize] = true;
+    pass.put(gate, 0, Locked::Desk(desk), Slip::of(Act::Join(seat)));
+    true
+}
+
+/// Offers a slice to the seat's pool; false where nobody has the seat.
+pub fn send<R: Wait>(rt: &R, gate: &Gate<Locked>, pass: &mut Pass<Locked>, seat: u32) -> bool
+    requires idle { IsIdle gate.now pass.old }
+    requires seat { seat < 3 }
+    requires turns { pass.old.view.turns + 2 ≤ 2 ^ 43 }
+    ensures idle { IsIdle gate.now pass.new }
+    ensures seats { (c : ℕ) → is_seated c (part pass.new.view 0).own ≡ is_seated c (part pass.old.view 0).own }
+    ensures turns { pass.new.view.turns ≤ pass.old.view.turns + 2 }
+{
+    let Locked::Desk(desk) = pass.take(rt, gate, 0) else {
+        unreachable!()
+    };
+    if !desk.taken[seat as usize] {
+        pass.put(gate, 0, Locked::Desk(desk), Slip::of(Act::Idle));
+        return false;
+    }
+    let Locked::Pool(pool) = pass.take(rt, gate, seat + 1) else {
+        unreachable!()
+    };
+    let marks = pass.sweep(gate, seat + 1);
+    let swept = has_slice(&marks);
+    pass.put(
+        gate,
+        seat + 1,
+        Locked::Pool(offered(pool, swept)),
+        Slip::of(Act::Offer(swept)),
+    );
+    pass.put(gate, 0, Locked::Desk(desk), Slip::of(Act::Send(seat)));
+    true
+}
+
+/// Takes the slice that was offered into the hand; false where there is none. The pass has the seat.
+pub fn receive<R: Wait>(rt: &R, gate: &Gate<Locked>, pass: &mut Pass<Locked>, seat: u32) -> bool
+    requires idle { IsIdle gate.now pass.old }
+    requires seat { seat < 3 }
+    requires seated { is_seated seat (part pass.old.view 0).own ≡ true }
+    requires turns { pass.old.view.turns < 2 ^ 43 }
+    ensures idle { IsIdle gate.now pass.new }
+    ensures received { IsTrue result → has 200 (hand pass.new.view (seat + 1)) ≡ true }
+    ensures none { IsFalse result → hand pass.new.view (seat + 1) ≡ hand pass.old.view (seat + 1) }
+    ensures desk { part pass.new.view 0 ≡ part pass.old.view 0 }
+    ensures turns { pass.new.view.turns ≡ pass.old.view.turns + 1 }
+{
+    let Locked::Pool(pool) = pass.take(rt, gate, seat + 1) else {
+        unreachable!()
+    };
+    let placed = is_placed(pool);
+    if !placed {
+        pass.put(gate, seat + 1, Locked::Pool(pool), Slip::of(Act::Idle));
+        return false;
+    }
+    pass.put(
+        gate,
+        seat + 1,
+        Locked::Pool(Pool::Handed),
+        Slip::of(Act::Receive),
+    );
+    true
+}
+
+/// Gives the slice back, in one step and without waiting.
+pub fn release(gate: &Gate<Locked>, pass: &mut Pass<Locked>, seat: u32)
+    requires idle { IsIdle gate.now pass.old }
+    requires seat { seat < 3 }
+    requires in_hand { has 200 (hand pass.old.view (seat + 1)) ≡ true }
+    ensures idle { IsIdle gate.now pass.new }
+    ensures gone { has 200 (hand pass.new.view (seat + 1)) ≡ false }
+    ensures steps { pass.new.view.steps ≡ pass.old.view.steps + 1 }
+    ensures turns { pass.new.view.turns ≡ pass.old.view.turns }
+{
+    pass.mark(gate, seat + 1, SLICE);
+}

@@ -1,0 +1,13 @@
+pub mod Changed
+pub mod Moved
+pub mod Steps
+pub mod Passes
+pub mod Hands
+pub mod Marks
+pub mod Made
+pub mod Tells
+pub mod Spread
+pub mod Closed
+pub mod Finals
+pub mod Settled
+pub mod Unlent

@@ -1,0 +1,140 @@
+-- What each step and each call tells, and what a put owes.
+use Rattle.std.specs.Prelude.{◌≡◌, ◌≢◌, ℕ, ◌+◌, ◌*◌, ◌^◌, ◌<◌, ◌≤◌, true, false, List, [], ◌∷◌, ◌++◌, length, slice_index, Some}
+use mathlib.Core.Option.{some}
+use mathlib.Core.List.{IsPrefix}
+use lib.ListN.{get_elem?}
+use Rattle.atomic_table.specs.Table.{Me, Step}
+use Rattle.kd_turn.specs.declared.views.Cell.{Cell}
+use Rattle.kd_turn.specs.declared.views.View.{View}
+use Rattle.kd_turn.specs.Lists.{made_by, blank, part, hand, without}
+use Rattle.kd_turn.specs.World.{World, entered, opened_after}
+use Rattle.kd_turn.specs.Rule.{Stands, drawn, holding, part_passed, passed_on, marked, cleared}
+
+-- The world is in keeping with what a pass of this view knows
+pub record Fits {E : Type 0} (v : View E) (w : World E) : Type 0 where
+  pub begins : (k : ℕ) → IsPrefix (part v k).seen (w.told.lists k)
+  pub mine : (k : ℕ) → made_by v.name (w.told.lists k) ≡ (part v k).own
+  -- the list of a lock that it holds is the one that it has seen
+  pub whole : (k : ℕ) → (part v k).holds ≡ true → (part v k).seen ≡ w.told.lists k
+  pub opened : (part v 0).holds ≡ true → (v.opened ≡ w.told.opened) × (w.holder ≡ Some v.name)
+  pub closed : (part v 0).holds ≡ false → w.holder ≢ Some v.name
+  pub hands : (k : ℕ) → hand v k ≡ w.hands v.name k
+  pub swept : (k : ℕ) → (part v k).swept ≡ w.swept v.name k
+  -- what it holds was swept by no other
+  pub sole : (k : ℕ) → (part v k).holds ≡ true → (i : ℕ) → i ≢ v.name → w.swept i k ≡ []
+
+-- the fact holds of some world in keeping with this view
+pub record Stood {E : Type 0} (fact : World E → Type 0) (v : View E) : Type 0 where
+  pub world : World E
+  pub fits : Fits v world
+  pub holds : fact world
+
+module _ {X E : Type 0} where
+  abbrev pub drew : Step (Cell X E) → Me (Cell X E) (View E) → ℕ → Me (Cell X E) (View E) → Type 0
+  drew st m r m' = (m' ≡ (drawn st.word r m.0, m.1)) × (part m'.0 st.word ≡ record (part m.0 st.word) { ticket = Some r })
+
+  -- the pass gained the lock, with its whole list and the value that stands for it
+  pub record Gained (stands : ℕ → List (ℕ × E) → X → Type 0) (fact : World E → Type 0) (l r : ℕ) (m m' : Me (Cell X E) (View E)) : Type 0 where
+    pub list : List (ℕ × E)
+    pub cell : Cell X E
+    pub seat : m' ≡ (holding l list m.0, (l, cell) ∷ m.1)
+    pub value : Stands stands l list cell
+    pub begins : IsPrefix (part m.0 l).seen list
+    pub mine : made_by m.0.name list ≡ (part m.0 l).own
+    pub turn : length list ≡ r
+    pub short : length list < 2 ^ 53
+    pub here : part m'.0 l ≡ record (part m.0 l) { seen = list; holds = true }
+    pub unswept : (part m.0 l).swept ≡ []
+    pub shut : (part m.0 0).holds ≡ false → m.0.opened ≡ []
+    pub stood : Stood fact m'.0
+
+  abbrev pub looked : (ℕ → List (ℕ × E) → X → Type 0) → (World E → Type 0) → Step (Cell X E) → Me (Cell X E) (View E) → ℕ → Me (Cell X E) (View E) → Type 0
+  looked stands fact st m r m' = (l : ℕ) → st.word ≡ st.slots + l → ((part m.0 l).ticket ≡ Some r → Gained stands fact l r m m') × ((part m.0 l).ticket ≢ Some r → m' ≡ m)
+
+  -- the entry lies in the slot, which goes home
+  abbrev pub passed : (ℕ → E → (ℕ → List ℕ) → ℕ → List ℕ) → Step (Cell X E) → Me (Cell X E) (View E) → ℕ → Me (Cell X E) (View E) → Type 0
+  passed after st m r m' = (l : ℕ) (y : Cell X E) (e : E) (c : List (ℕ × Cell X E)) → st.word ≡ st.slots + l → m.1 ≡ (l, y) ∷ c → y.entry ≡ Some e → (m' ≡ (passed_on after l e m.0, c)) × (part m'.0 l ≡ part_passed l e m.0) × (l < length m.0.hands)
+
+  -- the number n = 64 q + i is marked, and leaves the hand
+  abbrev pub sets_mark : Step (Cell X E) → Me (Cell X E) (View E) → ℕ → Me (Cell X E) (View E) → Type 0
+  sets_mark st m r m' = (l q i : ℕ) → q < 4 → st.word ≡ 2 * st.slots + (4 * l + q) → st.first ≡ 2 ^ i → m' ≡ (marked l (64 * q + i) m.0, m.1)
+
+  -- the marks belong to this turn
+  abbrev pub swept_up : Step (Cell X E) → Me (Cell X E) (View E) → ℕ → Me (Cell X E) (View E) → Type 0
+  swept_up st m r m' = (l q : ℕ) → q < 4 → st.word ≡ 2 * st.slots + (4 * l + q) → (m' ≡ (cleared l (q, r) m.0, m.1)) × (part m'.0 l ≡ record (part m.0 l) { swept = (part m.0 l).swept ++ (q, r) ∷ [] })
+
+module _ {X E : Type 0} where
+  -- A pass took the lock l, and has its value x
+  pub record Took (stands : ℕ → List (ℕ × E) → X → Type 0) (fact : World E → Type 0) (l : ℕ) (v v' : View E) (x : X) : Type 0 where
+    pub value : stands l (part v' l).seen x
+    pub begins : IsPrefix (part v l).seen (part v' l).seen
+    pub mine : made_by v.name (part v' l).seen ≡ (part v l).own
+    pub own : (part v' l).own ≡ (part v l).own
+    pub holds : (part v' l).holds ≡ true
+    pub swept : (part v' l).swept ≡ []
+    pub others : (k : ℕ) → k ≢ l → part v' k ≡ part v k
+    pub short : length (part v' l).seen < 2 ^ 53
+    pub turns : v'.turns ≡ v.turns + 1
+    pub steps : v'.steps ≡ v.steps
+    pub name : v'.name ≡ v.name
+    pub hands : v'.hands ≡ v.hands
+    pub opened : v'.opened ≡ v.opened
+    pub shut : (part v 0).holds ≡ false → v'.opened ≡ []
+    -- what stood in the lists of all locks when the pass got its turn
+    pub stood : Stood fact v'
+
+-- A pass passed the lock l on, with the entry e
+pub record Passed {E : Type 0} (after : ℕ → E → (ℕ → List ℕ) → ℕ → List ℕ) (l : ℕ) (e : E) (v v' : View E) : Type 0 where
+  pub here : part v' l ≡ part_passed l e v
+  pub others : (k : ℕ) → k ≢ l → part v' k ≡ part v k
+  pub turns : v'.turns ≡ v.turns
+  pub steps : v'.steps ≡ v.steps
+  pub name : v'.name ≡ v.name
+  pub hands : (k : ℕ) → hand v' k ≡ after l e (hand v) k
+  pub opened : v'.opened ≡ opened_after l (v.name, e) (part v 0).holds v.opened
+
+-- What a put owes: the fact holds again, whatever the world is in which the pass puts its entry
+abbrev pub Owes : {E : Type 0} → (World E → Type 0) → (ℕ → E → (ℕ → List ℕ) → ℕ → List ℕ) → View E → ℕ → E → Type 0
+Owes {E} fact after v l e = (w : World E) → Fits v w → fact w → fact (entered after l v.name e w)
+
+-- a pass that has seen nothing
+pub record IsFresh {E : Type 0} (name : ℕ) (v : View E) : Type 0 where
+  pub name_is : v.name ≡ name
+  pub parts : (l : ℕ) → part v l ≡ blank
+  pub hands : (l : ℕ) → hand v l ≡ []
+  pub opened : v.opened ≡ []
+  pub turns : v.turns ≡ 0
+  pub steps : v.steps ≡ 0
+
+-- A pass marked the number n of the lock l, which left its hand
+pub record Marked {E : Type 0} (l n : ℕ) (v v' : View E) : Type 0 where
+  pub hand_is : hand v' l ≡ without n (hand v l)
+  pub other_hands : (k : ℕ) → k ≢ l → hand v' k ≡ hand v k
+  pub steps : v'.steps ≡ v.steps + 1
+  pub parts : v'.parts ≡ v.parts
+  pub turns : v'.turns ≡ v.turns
+  pub name : v'.name ≡ v.name
+  pub opened : v'.opened ≡ v.opened
+
+-- A pass swept the four mark words of the lock l, and found these
+pub record DidSweep {E : Type 0} (l : ℕ) (found : List ℕ) (v v' : View E) : Type 0 where
+  pub here : part v' l ≡ record (part v l) { swept = (part v l).swept ++ (0, slice_index found 0) ∷ (1, slice_index found 1) ∷ (2, slice_index found 2) ∷ (3, slice_index found 3) ∷ [] }
+  pub others : (k : ℕ) → k ≢ l → part v' k ≡ part v k
+  pub hands : v'.hands ≡ v.hands
+  pub turns : v'.turns ≡ v.turns
+  pub steps : v'.steps ≡ v.steps
+  pub name : v'.name ≡ v.name
+  pub opened : v'.opened ≡ v.opened
+
+-- What is known of the lists once all passes are taken in: `known` is what each of them knew
+pub record Ended {X E : Type 0} (stands : ℕ → List (ℕ × E) → X → Type 0) (fact : World E → Type 0) (passes : ℕ) (known : List (View E)) (values : List X) : Type 0 where
+  pub world : World E
+  -- each value stands for the whole list of its lock
+  pub stood : (l : ℕ) (x : X) → get_elem? values l ≡ some x → stands l (world.told.lists l) x
+  -- what each pass has seen begins the list, and its own entries are those that the list has of it
+  pub begins : (k : ℕ) (v : View E) → get_elem? known k ≡ some v → (l : ℕ) → IsPrefix (part v l).seen (world.told.lists l)
+  pub own : (k : ℕ) (v : View E) → get_elem? known k ≡ some v → (l : ℕ) → made_by v.name (world.told.lists l) ≡ (part v l).own
+  -- no other pass made any
+  pub nobody : (j l : ℕ) → passes ≤ j → made_by j (world.told.lists l) ≡ []
+  pub tied : fact world
+  pub shut : world.told.opened ≡ []
