@@ -1,0 +1,11 @@
+pub mod State
+pub mod Items
+pub mod Rights
+pub mod Audience
+pub mod Send
+pub mod Plans
+pub mod Hello
+pub mod Leaving
+pub mod Naming
+pub mod Asking
+pub mod Step
