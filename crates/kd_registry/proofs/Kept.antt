@@ -100,10 +100,6 @@ renewed_on n x (c ∷ cs) on all = let all' = and_parts (is_on n c) (all_of (is_
     go true p = on
     go false p = p
 
--- another connection's claim
-other_id : (x c : Claim) → is_ordinary c ≡ true → is_of x.id c ≡ false → is_of c.id x ≡ false
-other_id x c o f = false_from_ne_true (is_of c.id x) (λ t. true≢false (sym (and_from (is_ordinary c) (c.id == x.id) o (eq-eqb c.id x.id (sym (eqb-true x.id c.id (and_parts (is_ordinary x) (x.id == c.id) t).1)))) ∙ f))
-
 joined_ranked : (n : List ℕ) (x : Claim) (mine : List Claim) → is_ordinary x ≡ true → is_on n x ≡ true → ranked mine ≡ true → all_of (is_on n) mine ≡ true → some_of (is_of x.id) mine ≡ false → ranked (those is_ordinary mine ++ x ∷ but_those is_ordinary mine) ≡ true
 joined_ranked n x mine o on h all none =
     let ord : List Claim = those is_ordinary mine in

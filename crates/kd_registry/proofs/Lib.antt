@@ -5,4 +5,6 @@ pub mod Places
 pub mod Kept
 pub mod Answered
 pub mod Leaving
+pub mod Finding
+pub mod Counting
 mod Rows

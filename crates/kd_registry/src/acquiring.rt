@@ -4,10 +4,11 @@ ghost use Rattle.std.specs.Prelude.{◌≡◌, ◌<◌, ◌&&◌, not, nat_le, l
 ghost use Rattle.kd_model.specs.Words.{some_of};
 ghost use Rattle.kd_registry.specs.Claims.{acquired, activator_answer, after_activator, asked, claim_of, held, is_of, judged};
 
+use crate::book::Book;
 use crate::claim::{Claim, Stake, Verdict};
 use crate::edits::{put_in_queue, put_last, take};
 use crate::registry::{CLAIM_LIMIT, Registry};
-use crate::search::{has_activator, has_claim, held, ranks};
+use crate::search::{has_activator, has_claim, ranks};
 use kd_name::is_name;
 use kd_types::{ConnId, NameFlags, Refusal, Text};
 
@@ -50,10 +51,10 @@ fn judge(ranks: &[Claim], id: ConnId, flags: NameFlags, is_over: bool) -> Result
 }
 
 /// Whether a connection without a claim on a name has as many others as it may have.
-fn is_over(claims: &[Claim], ranks: &[Claim], id: ConnId) -> bool
-    ensures { result ≡ (not (some_of (is_of id) ranks.now) && nat_le 64 (held claims.now id)) }
+fn is_over(book: &Book, ranks: &[Claim], id: ConnId) -> bool
+    ensures { result ≡ (not (some_of (is_of id) ranks.now) && nat_le 64 (held book.now id)) }
 {
-    !has_claim(ranks, id) && held(claims, id) >= CLAIM_LIMIT
+    !has_claim(ranks, id) && book.held(id) >= CLAIM_LIMIT
 }
 
 impl Registry {
@@ -64,8 +65,8 @@ impl Registry {
         if !is_name(name) {
             return Err(Refusal::BadName);
         }
-        let mine = ranks(&self.claims, name);
-        judge(mine, id, flags, is_over(&self.claims, mine, id))
+        let mine = ranks(self.book.claims(), name);
+        judge(mine, id, flags, is_over(&self.book, mine, id))
     }
 
     /// An ordinary connection asks for a name. The first of these cases that holds decides: the text is no
@@ -86,8 +87,8 @@ impl Registry {
             stake: Stake::Ordinary(flags),
         };
         match verdict {
-            Verdict::Owner { .. } => take(&mut self.claims, claim),
-            Verdict::Queued => put_in_queue(&mut self.claims, claim),
+            Verdict::Owner { .. } => take(&mut self.book, claim),
+            Verdict::Queued => put_in_queue(&mut self.book, claim),
         }
         Ok(verdict)
     }
@@ -99,7 +100,7 @@ impl Registry {
         if !is_name(name) {
             return Err(Refusal::BadName);
         }
-        if has_activator(ranks(&self.claims, name)) {
+        if has_activator(ranks(self.book.claims(), name)) {
             return Err(Refusal::NameTaken);
         }
         Ok(())
@@ -114,7 +115,7 @@ impl Registry {
     {
         self.may_activate(name.bytes())?;
         put_last(
-            &mut self.claims,
+            &mut self.book,
             Claim {
                 name,
                 id,

@@ -134,7 +134,7 @@ impl Registry {
     pub fn names_of(&self, alloc: Global, id: ConnId) -> Result<Vec<Text>, AllocError>
         ensures { IfOk result (λ names. names.items ≡ names_of self.now id) }
     {
-        owned_names(alloc, &self.claims, id)
+        owned_names(alloc, self.book.claims(), id)
     }
 
     /// The names in byte order, and for each those that the flags ask for: the owner that isn't an
@@ -142,7 +142,7 @@ impl Registry {
     pub fn listing(&self, alloc: Global, flags: ListFlags) -> Result<Vec<Listed>, AllocError>
         ensures { IfOk result (λ rows. rows.items ≡ listing self.now flags) }
     {
-        rows(alloc, &self.claims, flags)
+        rows(alloc, self.book.claims(), flags)
     }
 
     /// The owner changes if all of these connections left at once, by name.
@@ -150,6 +150,6 @@ impl Registry {
         ensures changes { IfOk result (λ changes. changes.items ≡ changes_without self.now ids.now) }
         ensures owners { IfOk result (λ changes. TellsOwners self.now ids.now changes.items) }
     {
-        changes(alloc, &self.claims, ids)
+        changes(alloc, self.book.claims(), ids)
     }
 }

@@ -3,7 +3,7 @@
 ghost use Rattle.std.specs.Prelude.{◌≡◌, ◌↔◌, ◌<◌, length, [], List, IsTrue, IfOk, option_map};
 ghost use Rattle.kd_registry.specs.Claims.{as_owner, owner};
 
-use crate::claim::Claim;
+use crate::book::Book;
 use crate::search::owner_of;
 use kd_types::ConnId;
 use std::alloc::{AllocError, Global};
@@ -19,19 +19,19 @@ pub const ROOM: usize = 4160;
 /// The claims on all names. A contract sees them as one list, by name in byte order and then by rank.
 #[derive(Debug, Drop)]
 pub struct Registry {
-    pub(crate) claims: Vec<Claim>,
+    pub(crate) book: Book,
 }
 
 impl Model for Registry {
-    ghost use Rattle.std.specs.Prelude.{List, ◌≤◌, IsTrue, vec_len, vec_capacity};
+    ghost use Rattle.std.specs.Prelude.{List, ◌≤◌, IsTrue, length};
     ghost use Rattle.kd_registry.specs.declared.claim.Claim.{Claim};
     ghost use Rattle.kd_registry.specs.Claims.{ranked};
 
     ghost Value = { List Claim };
 
-    ghost view = { λ r. r.claims.items };
+    ghost view = { λ r. r.book };
 
-    ghost invariant = { λ r. IsTrue (ranked r.claims.items) × (vec_len r.claims ≤ 4160) × (4160 ≤ vec_capacity r.claims) };
+    ghost invariant = { λ r. IsTrue (ranked r.book) × (length r.book ≤ 4160) };
 }
 
 impl Registry {
@@ -40,7 +40,7 @@ impl Registry {
         ensures empty { IfOk result (λ r. r ≡ []) }
     {
         Ok(Registry {
-            claims: Vec::with_capacity(alloc, ROOM)?,
+            book: Book::make(alloc)?,
         })
     }
 
@@ -48,14 +48,14 @@ impl Registry {
     pub fn has_room(&self) -> bool
         ensures { IsTrue result ↔ (length self.now < 4160) }
     {
-        self.claims.len() < ROOM
+        self.book.claims().len() < ROOM
     }
 
     /// Who owns the name, and whether it is an activator.
     pub fn owner(&self, name: &[u8]) -> Option<(ConnId, bool)>
         ensures { result ≡ option_map as_owner (owner self.now name.now) }
     {
-        match owner_of(&self.claims, name) {
+        match owner_of(self.book.claims(), name) {
             Some(owner) => Some((owner.id, !owner.is_ordinary())),
             None => None,
         }

@@ -1,6 +1,6 @@
 //! Giving names up, one by one or all at once.
 
-ghost use Rattle.std.specs.Prelude.{◌≡◌, ◌≤◌, vec_len, vec_capacity};
+ghost use Rattle.std.specs.Prelude.{◌≡◌};
 ghost use Rattle.kd_registry.specs.Claims.{after_release, heir, left_by, release_answer};
 
 use crate::claim::Claim;
@@ -20,14 +20,6 @@ fn heir(ranks: &[Claim], id: ConnId) -> ConnId
     }
 }
 
-fn drop_all(claims: &mut Vec<Claim>, id: ConnId)
-    ensures items { claims.new.items ≡ left_by claims.old.items id }
-    ensures len { vec_len claims.new ≤ vec_len claims.old }
-    ensures capacity { vec_capacity claims.new ≡ vec_capacity claims.old }
-{
-    claims.retain(|claim| !(claim.id == id));
-}
-
 impl Registry {
     /// What [`Registry::release`] would be answered.
     pub fn may_release(&self, id: ConnId, name: &[u8]) -> Result<ConnId, Refusal>
@@ -36,7 +28,7 @@ impl Registry {
         if !is_name(name) {
             return Err(Refusal::BadName);
         }
-        let mine = ranks(&self.claims, name);
+        let mine = ranks(self.book.claims(), name);
         if mine.is_empty() {
             return Err(Refusal::NoSuchName);
         }
@@ -54,7 +46,7 @@ impl Registry {
         ensures after { self.new ≡ after_release self.old id name.now result }
     {
         let owner = self.may_release(id, name)?;
-        withdraw(&mut self.claims, id, name);
+        withdraw(&mut self.book, id, name);
         Ok(owner)
     }
 
@@ -62,6 +54,6 @@ impl Registry {
     pub fn drop_conn(&mut self, id: ConnId)
         ensures { self.new ≡ left_by self.old id }
     {
-        drop_all(&mut self.claims, id);
+        self.book.leave(id);
     }
 }

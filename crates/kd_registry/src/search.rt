@@ -3,7 +3,7 @@
 ghost use Rattle.std.specs.Prelude.{option_map, ◌≡◌, ◌+◌, ◌≤◌, IsTrue, length};
 ghost use Rattle.std.specs.List.{position};
 ghost use Rattle.kd_model.specs.Words.{some_of, text_below, those};
-ghost use Rattle.kd_registry.specs.Claims.{held, is_of, is_ordinary, head, is_placeholder, lower, owner, ranked, ranks};
+ghost use Rattle.kd_registry.specs.Claims.{is_of, is_ordinary, head, is_placeholder, lower, owner, ranked, ranks};
 
 use crate::claim::Claim;
 use kd_types::ConnId;
@@ -80,13 +80,6 @@ pub(crate) fn ordinary_count(ranks: &[Claim]) -> usize
     ensures { result ≡ length (those is_ordinary ranks.now) }
 {
     ranks.iter().filter(|claim| claim.is_ordinary()).count()
-}
-
-/// How many ordinary claims a connection has.
-pub(crate) fn held(claims: &[Claim], id: ConnId) -> usize
-    ensures { result ≡ held claims.now id }
-{
-    claims.iter().filter(|claim| claim.is_of(id)).count()
 }
 
 /// Whether an activator stands on a name.

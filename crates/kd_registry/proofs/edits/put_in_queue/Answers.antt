@@ -1,76 +1,80 @@
 use Rattle.std.proofs.Common.{◌≡◌, ◌+◌, ap, ◌∙◌, arith, length, Some, None}
 use Rattle.std.specs.List.{position, insert}
+use Rattle.std.proofs.lemmas.List.{length-set}
+use Rattle.std.proofs.lemmas.List.Edits.{length-insert}
 use Rattle.kd_model.specs.Words.{those}
 use Rattle.kd_registry.specs.Claims.{is_of, is_ordinary, ranks}
 use Rattle.kd_registry.proofs.Places.{start_here, ranks_here, rank_within, ordinary_within, counts_one, counts_none, queues_again, queues_behind}
 use Rattle.kd_registry.proofs.edits.put_in_queue.Goals as goal
 
-pub index_mut-requires : goal.index_mut-requires
-index_mut-requires c =
-    let r = c.args.claims.now.items in
+pub replace-requires : goal.replace-requires
+replace-requires c =
+    let r = c.args.book.now in
     let n = c.args.claim.name in
-    let start = start_here c.start_of-start.result c.deref.result.now r c.bytes.result.now n c.start_of-start.ensures.place c.deref.ensures.value c.bytes.ensures in
-    let mine = ranks_here c.ranks-mine.result.now c.deref-2.result.now r c.bytes-2.result.now n c.ranks-mine.ensures c.deref-2.ensures.value c.bytes-2.ensures in
+    let start = start_here c.start_of-start.result c.claims.result.now r c.bytes.result.now n c.start_of-start.ensures.place c.claims.ensures c.bytes.ensures in
+    let mine = ranks_here c.ranks-mine.result.now c.claims-2.result.now r c.bytes-2.result.now n c.ranks-mine.ensures c.claims-2.ensures c.bytes-2.ensures in
     let place : Some c.in-Some.rank ≡ position (is_of c.args.claim.id) (ranks r n) = c.in-Some.ensures ∙ ap (position (is_of c.args.claim.id)) mine in
-    omega (arith, start, rank_within r c.args.claim.id n c.in-Some.rank c.requires.ranked place, c.deref.ensures.len, ap length c.deref.ensures.value)
+    omega (arith, start, rank_within r c.args.claim.id n c.in-Some.rank c.requires.ranked place)
 
 pub overflow_add-behind : goal.overflow_add-behind
 overflow_add-behind c =
-    let r = c.args.claims.now.items in
+    let r = c.args.book.now in
     let n = c.args.claim.name in
-    let start = start_here c.start_of-start.result c.deref.result.now r c.bytes.result.now n c.start_of-start.ensures.place c.deref.ensures.value c.bytes.ensures in
-    let mine = ranks_here c.ranks-mine.result.now c.deref-2.result.now r c.bytes-2.result.now n c.ranks-mine.ensures c.deref-2.ensures.value c.bytes-2.ensures in
+    let start = start_here c.start_of-start.result c.claims.result.now r c.bytes.result.now n c.start_of-start.ensures.place c.claims.ensures c.bytes.ensures in
+    let mine = ranks_here c.ranks-mine.result.now c.claims-2.result.now r c.bytes-2.result.now n c.ranks-mine.ensures c.claims-2.ensures c.bytes-2.ensures in
     let count = c.ordinary_count.ensures ∙ ap (λ z. length (those is_ordinary z)) mine in
-    omega (arith, start, count, ordinary_within r n c.requires.ranked, c.requires.short, c.deref.ensures.len, ap length c.deref.ensures.value)
+    omega (arith, start, count, ordinary_within r n c.requires.ranked, c.requires.short)
 
-pub insert_at-requires-clause-within : goal.insert_at-requires-clause-within
-insert_at-requires-clause-within c =
-    let r = c.args.claims.now.items in
+pub insert-requires-clause-within : goal.insert-requires-clause-within
+insert-requires-clause-within c =
+    let r = c.args.book.now in
     let n = c.args.claim.name in
-    let start = start_here c.start_of-start.result c.deref.result.now r c.bytes.result.now n c.start_of-start.ensures.place c.deref.ensures.value c.bytes.ensures in
-    let mine = ranks_here c.ranks-mine.result.now c.deref-2.result.now r c.bytes-2.result.now n c.ranks-mine.ensures c.deref-2.ensures.value c.bytes-2.ensures in
+    let start = start_here c.start_of-start.result c.claims.result.now r c.bytes.result.now n c.start_of-start.ensures.place c.claims.ensures c.bytes.ensures in
+    let mine = ranks_here c.ranks-mine.result.now c.claims-2.result.now r c.bytes-2.result.now n c.ranks-mine.ensures c.claims-2.ensures c.bytes-2.ensures in
     let count = c.ordinary_count.ensures ∙ ap (λ z. length (those is_ordinary z)) mine in
-    omega (arith, start, count, ordinary_within r n c.requires.ranked, c.deref.ensures.len, ap length c.deref.ensures.value)
+    omega (arith, start, count, ordinary_within r n c.requires.ranked)
 
-pub insert_at-requires-clause-room : goal.insert_at-requires-clause-room
-insert_at-requires-clause-room c =
-    let r = c.args.claims.now.items in
+pub insert-requires-clause-room : goal.insert-requires-clause-room
+insert-requires-clause-room c =
+    let r = c.args.book.now in
     let n = c.args.claim.name in
-    let mine = ranks_here c.ranks-mine.result.now c.deref-2.result.now r c.bytes-2.result.now n c.ranks-mine.ensures c.deref-2.ensures.value c.bytes-2.ensures in
+    let mine = ranks_here c.ranks-mine.result.now c.claims-2.result.now r c.bytes-2.result.now n c.ranks-mine.ensures c.claims-2.ensures c.bytes-2.ensures in
     let place : None ≡ position (is_of c.args.claim.id) (ranks r n) = c.in-None.ensures ∙ ap (position (is_of c.args.claim.id)) mine in
     omega (arith, c.requires.room, counts_none r c.args.claim.id n place)
 
 pub returns-in-Some-clause-items : goal.returns-in-Some-clause-items
 returns-in-Some-clause-items c =
-    let r = c.args.claims.now.items in
+    let r = c.args.book.now in
     let n = c.args.claim.name in
-    let start = start_here c.start_of-start.result c.deref.result.now r c.bytes.result.now n c.start_of-start.ensures.place c.deref.ensures.value c.bytes.ensures in
-    let mine = ranks_here c.ranks-mine.result.now c.deref-2.result.now r c.bytes-2.result.now n c.ranks-mine.ensures c.deref-2.ensures.value c.bytes-2.ensures in
+    let start = start_here c.start_of-start.result c.claims.result.now r c.bytes.result.now n c.start_of-start.ensures.place c.claims.ensures c.bytes.ensures in
+    let mine = ranks_here c.ranks-mine.result.now c.claims-2.result.now r c.bytes-2.result.now n c.ranks-mine.ensures c.claims-2.ensures c.bytes-2.ensures in
     let place : Some c.in-Some.rank ≡ position (is_of c.args.claim.id) (ranks r n) = c.in-Some.ensures ∙ ap (position (is_of c.args.claim.id)) mine in
-    queues_again r n c.args.claim c.start_of-start.result c.in-Some.rank c.requires.ranked start place
+    c.replace.ensures ∙ queues_again r n c.args.claim c.start_of-start.result c.in-Some.rank c.requires.ranked start place
 
 pub returns-in-Some-clause-len : goal.returns-in-Some-clause-len
 returns-in-Some-clause-len c =
-    let r = c.args.claims.now.items in
+    let r = c.args.book.now in
     let n = c.args.claim.name in
-    let mine = ranks_here c.ranks-mine.result.now c.deref-2.result.now r c.bytes-2.result.now n c.ranks-mine.ensures c.deref-2.ensures.value c.bytes-2.ensures in
+    let mine = ranks_here c.ranks-mine.result.now c.claims-2.result.now r c.bytes-2.result.now n c.ranks-mine.ensures c.claims-2.ensures c.bytes-2.ensures in
     let place : Some c.in-Some.rank ≡ position (is_of c.args.claim.id) (ranks r n) = c.in-Some.ensures ∙ ap (position (is_of c.args.claim.id)) mine in
-    omega (arith, counts_one r c.args.claim.id n c.in-Some.rank c.requires.ranked place)
+    omega (arith, ap length c.replace.ensures, length-set r (c.start_of-start.result + c.in-Some.rank) c.args.claim, counts_one r c.args.claim.id n c.in-Some.rank c.requires.ranked place)
 
 pub returns-in-None-clause-items : goal.returns-in-None-clause-items
 returns-in-None-clause-items c =
-    let r = c.args.claims.now.items in
+    let r = c.args.book.now in
     let n = c.args.claim.name in
-    let start = start_here c.start_of-start.result c.deref.result.now r c.bytes.result.now n c.start_of-start.ensures.place c.deref.ensures.value c.bytes.ensures in
-    let mine = ranks_here c.ranks-mine.result.now c.deref-2.result.now r c.bytes-2.result.now n c.ranks-mine.ensures c.deref-2.ensures.value c.bytes-2.ensures in
+    let start = start_here c.start_of-start.result c.claims.result.now r c.bytes.result.now n c.start_of-start.ensures.place c.claims.ensures c.bytes.ensures in
+    let mine = ranks_here c.ranks-mine.result.now c.claims-2.result.now r c.bytes-2.result.now n c.ranks-mine.ensures c.claims-2.ensures c.bytes-2.ensures in
     let place : None ≡ position (is_of c.args.claim.id) (ranks r n) = c.in-None.ensures ∙ ap (position (is_of c.args.claim.id)) mine in
     let count = c.ordinary_count.ensures ∙ ap (λ z. length (those is_ordinary z)) mine in
-    c.insert_at.ensures.items ∙ ap (λ k. insert r (c.start_of-start.result + k) c.args.claim) count ∙ queues_behind r n c.args.claim c.start_of-start.result c.requires.ranked start place
+    c.insert.ensures ∙ ap (λ k. insert r (c.start_of-start.result + k) c.args.claim) count ∙ queues_behind r n c.args.claim c.start_of-start.result c.requires.ranked start place
 
 pub returns-in-None-clause-len : goal.returns-in-None-clause-len
 returns-in-None-clause-len c =
-    let r = c.args.claims.now.items in
+    let r = c.args.book.now in
     let n = c.args.claim.name in
-    let mine = ranks_here c.ranks-mine.result.now c.deref-2.result.now r c.bytes-2.result.now n c.ranks-mine.ensures c.deref-2.ensures.value c.bytes-2.ensures in
+    let start = start_here c.start_of-start.result c.claims.result.now r c.bytes.result.now n c.start_of-start.ensures.place c.claims.ensures c.bytes.ensures in
+    let mine = ranks_here c.ranks-mine.result.now c.claims-2.result.now r c.bytes-2.result.now n c.ranks-mine.ensures c.claims-2.ensures c.bytes-2.ensures in
     let place : None ≡ position (is_of c.args.claim.id) (ranks r n) = c.in-None.ensures ∙ ap (position (is_of c.args.claim.id)) mine in
-    omega (arith, c.insert_at.ensures.len, counts_none r c.args.claim.id n place)
+    let count = c.ordinary_count.ensures ∙ ap (λ z. length (those is_ordinary z)) mine in
+    omega (arith, ap length c.insert.ensures, length-insert r (c.start_of-start.result + c.ordinary_count.result) c.args.claim (omega (arith, start, count, ordinary_within r n c.requires.ranked)), counts_none r c.args.claim.id n place)

@@ -7,7 +7,7 @@ use Rattle.kd_registry.proofs.registry.Registry.changes_without.Goals as goal
 
 pub returns-clause-owners : goal.returns-clause-owners
 returns-clause-owners c =
-    let z = c.deref.result.now in
+    let z = c.claims.result.now in
     let ids = c.args.ids.now in
-    let in_order : ranked z ≡ true = rw c.deref.ensures.value c.self.invariant.0 in
-    IfOk-weaker c.changes.result (λ x. x.items ≡ changes_without z ids) (λ x. TellsOwners c.args.self.now ids x.items) (λ x f. tell_by z c.args.self.now ids x.items (c.deref.ensures.value ∙ c.self.view_is) in_order f) c.changes.ensures
+    let in_order : ranked z ≡ true = rw c.claims.ensures c.self.invariant.0 in
+    IfOk-weaker c.changes.result (λ x. x.items ≡ changes_without z ids) (λ x. TellsOwners c.args.self.now ids x.items) (λ x f. tell_by z c.args.self.now ids x.items (c.claims.ensures ∙ c.self.view_is) in_order f) c.changes.ensures

@@ -8,7 +8,7 @@ use Rattle.kd_registry.proofs.registry.Registry.set_activator.Goals as goal
 
 pub invariant_of-self : goal.invariant_of-self
 invariant_of-self c =
-    let r = c.self.inside.claims.items in
+    let r = c.self.inside.book in
     let n = c.args.name in
     let none : some_of is_placeholder (ranks r n) ≡ false = activated_none r n _ (c.in_ok-may_activate.ensures ∙ ap (λ m. activator_answer c.args.self.now m) c.bytes.ensures ∙ ap (λ z. activator_answer z n) (sym c.self.view_is)) in
-    (rw c.put_last.ensures.items (activates_ranked r (record { name = n; id = c.args.id; stake = Activator }) refl c.self.invariant.0 none), omega (arith, c.put_last.ensures.len, c.requires.room, ap length c.self.view_is, c.self.inside.claims.ok.0), omega (arith, c.put_last.ensures.capacity, c.self.invariant.2))
+    (rw c.put_last.ensures.items (activates_ranked r (record { name = n; id = c.args.id; stake = Activator }) refl c.self.invariant.0 none), omega (arith, c.put_last.ensures.len, c.requires.room, ap length c.self.view_is))
