@@ -7,15 +7,16 @@ use Rattle.std.proofs.lemmas.List.Sums.{sum_by-cons, sum_by-append}
 use Rattle.kd_types.specs.declared.creds.Creds.{Creds}
 use Rattle.kd_types.specs.declared.reply_error.ReplyError.{ReplyError}
 use Rattle.kd_types.specs.declared.reply_error.ReplyError.TheVariants.{Bad}
-use Rattle.kd_item.specs.Spelling.{Entry, word, number, padding, spelling}
+use Rattle.kd_item.specs.Spelling.{Entry, word, number, padding, spelling, words}
 use Rattle.kd_item.specs.Reading.{placed}
 use Rattle.kd_item.proofs.Words.{length-word, word_again}
 use Rattle.kd_item.proofs.Zeros.{zeros_pass}
 use Rattle.kd_image.specs.declared.message.SealedRange.{SealedRange}
-use Rattle.kd_image.specs.Items.{words, flag, padded_length, item, maybe, creds_item, owned_item, description_item, moment_item, name_item, off_item, off_items, shared_item, with_range, begins, Contents, items}
+use Rattle.kd_image.specs.Items.{flag, padded_length, item, maybe, creds_item, owned_item, description_item, moment_item, name_item, off_item, off_items, shared_item, with_range, begins, Contents, items, rising}
 use Rattle.kd_image.specs.Images.{padded, laid}
 use Rattle.kd_image.specs.Said.{IsTold, IsWord, IsText}
 use Rattle.kd_image.specs.Reading.{blank, with_item, with_creds, with_owned, with_description, with_moment, with_name, with_off, with_shared, read_on, payload_at, payloads_from}
+use Rattle.kd_image.proofs.Rising.{rising_front}
 use Rattle.kd_image.proofs.Lengths.{length-words, length-padded}
 use Rattle.kd_image.proofs.Written.{offs_behind, length-off_items}
 
@@ -86,15 +87,17 @@ pub takes_creds : (size : ℕ) (x : Option Creds) → IfSome x (λ y. (y.uid < 2
 takes_creds size None h = refl
 takes_creds size (Some y) h = ap (then_takes size []) (creds_parts size y.uid y.gid y.privileged h.0 h.1)
 
-takes_owned : (size : ℕ) (x : Option Creds) (ns : List (List ℕ)) (n : List ℕ) → IsText n → with_item size (said x ns None None None [] None) (owned_item n) ≡ Some (said x (ns ++ n ∷ []) None None None [] None)
+takes_owned : (size : ℕ) (x : Option Creds) (ns : List (List ℕ)) (n : List ℕ) → IsText n → rising (ns ++ n ∷ []) ≡ true → with_item size (said x ns None None None [] None) (owned_item n) ≡ Some (said x (ns ++ n ∷ []) None None None [] None)
 unfolding with_item with_owned
-takes_owned size x ns n h = rw h refl
+takes_owned size x ns n h up = rw (h, up) refl
 
-pub takes_names : (size : ℕ) (x : Option Creds) (done ns : List (List ℕ)) → AllByRecursion IsText ns → takes size (said x done None None None [] None) (map owned_item ns) ≡ Some (said x (done ++ ns) None None None [] None)
-takes_names size x done [] h = ap (λ (l : List (List ℕ)). Some (said x l None None None [] None)) (sym (append-nil done))
-takes_names size x done (n ∷ ns) h =
-    let more = takes_names size x (done ++ n ∷ []) ns h.1 in
-    ap (then_takes size (map owned_item ns)) (takes_owned size x done n h.0) ∙ more ∙ ap (λ (l : List (List ℕ)). Some (said x l None None None [] None)) (append_assoc done (n ∷ []) ns)
+pub takes_names : (size : ℕ) (x : Option Creds) (done ns : List (List ℕ)) → AllByRecursion IsText ns → rising (done ++ ns) ≡ true → takes size (said x done None None None [] None) (map owned_item ns) ≡ Some (said x (done ++ ns) None None None [] None)
+takes_names size x done [] h up = ap (λ (l : List (List ℕ)). Some (said x l None None None [] None)) (sym (append-nil done))
+takes_names size x done (n ∷ ns) h up =
+    let same : done ++ n ∷ [] ++ ns ≡ done ++ n ∷ ns = append_assoc done (n ∷ []) ns in
+    let whole : rising (done ++ n ∷ [] ++ ns) ≡ true = ap rising same ∙ up in
+    let more = takes_names size x (done ++ n ∷ []) ns h.1 whole in
+    ap (then_takes size (map owned_item ns)) (takes_owned size x done n h.0 (rising_front (done ++ n ∷ []) ns whole)) ∙ more ∙ ap (λ (l : List (List ℕ)). Some (said x l None None None [] None)) same
 
 takes_text : (size : ℕ) (x : Option Creds) (ns : List (List ℕ)) (t : List ℕ) → length t ≤ 255 → IsText t → with_item size (said x ns None None None [] None) (description_item t) ≡ Some (said x ns (Some t) None None [] None)
 unfolding with_item with_description
@@ -194,7 +197,7 @@ takes_all size c t =
     let e5 : List Entry = maybe name_item c.name in
     let e6 : List Entry = with_range c.range (off_items size [] c.lengths) in
     let t1 = takes_creds size c.creds t.creds in
-    let t2 = takes_both size blank c1 c2 e1 e2 t1 (takes_names size c.creds [] c.names t.names) in
+    let t2 = takes_both size blank c1 c2 e1 e2 t1 (takes_names size c.creds [] c.names t.names t.order) in
     let t3 = takes_both size blank c2 c3 (e1 ++ e2) e3 t2 (takes_description size c.creds c.names c.description t.description) in
     let t4 = takes_both size blank c3 c4 (e1 ++ e2 ++ e3) e4 t3 (takes_moment size c.creds c.names c.description c.moment t.moment) in
     let t5 = takes_both size blank c4 c5 (e1 ++ e2 ++ e3 ++ e4) e5 t4 (takes_name size c.creds c.names c.description c.moment c.name t.name) in

@@ -12,7 +12,7 @@ use Rattle.kd_types.specs.Flags.{has_only}
 use Rattle.kd_types.specs.Words.{is_empty}
 use Rattle.kd_types.specs.declared.reply_error.ReplyError.{ReplyError}
 use Rattle.kd_types.specs.declared.reply_error.ReplyError.TheVariants.{Bad}
-use Rattle.kd_item.specs.Spelling.{Entry, number, padding, spelling, spellings}
+use Rattle.kd_item.specs.Spelling.{Entry, number, padding, spelling, spellings, words}
 use Rattle.kd_item.specs.Reading.{item_at, are_zeros, split}
 use Rattle.kd_item.proofs.Words.{IsBytes, IsBytes-drop, IsBytes-take, number_fits}
 use Rattle.kd_item.proofs.Zeros.{zeros_back}
@@ -23,7 +23,7 @@ use Rattle.kd_image.specs.declared.notice.Notice.{Notice}
 use Rattle.kd_image.specs.declared.notice.Notice.TheVariants.{IdAdd, IdRemove, NameAdd, NameRemove, NameChange, ReplyTimeout, ReplyDead}
 use Rattle.kd_image.specs.declared.header.Header.{Header}
 use Rattle.kd_image.specs.declared.image.Image.{Image}
-use Rattle.kd_image.specs.Items.{words, padded_length, begins, Contents, contents, items}
+use Rattle.kd_image.specs.Items.{padded_length, begins, Contents, contents, items}
 use Rattle.kd_image.specs.Images.{padded, laid, header, front, front_length, image, notice_item, notice_destination, notice_last, notice_image}
 use Rattle.kd_image.specs.Said.{Origin, sent, told, IsSent, IsTold, IsNotice, IsSound, IsWord, IsText, bytes_of, value_of}
 use Rattle.kd_image.specs.Reading.{blank, header_break, header_of, contents_in, payload_at, payloads_from, id_in, owners_in, notice_of, notice_in, is_header_of, message_reading, message_value, notice_reading, notice_value, behind_header, reading}
@@ -146,7 +146,7 @@ contents_found size area c fits is =
     let es : List Entry = (split area).0 in
     let whole = split_whole area fits in
     let spelled : IsBytes (spellings es) = bytes_front (spellings es) (split area).1 (subst IsBytes whole.0 fits) in
-    let none : SoFar blank = record { creds = tt; names = tt; description = tt; moment = tt; name = tt; few = omega arith; range = tt } in
+    let none : SoFar blank = record { creds = tt; names = tt; order = refl; description = tt; moment = tt; name = tt; few = omega arith; range = tt } in
     let t = read_told size 64 blank c es (split area).1 spelled none is in
     (whole.0 ∙ ap (λ (l : List ℕ). spellings es ++ l) t.ended ∙ append-nil (spellings es) ∙ ap spellings (sym t.all), t.told)
 
@@ -189,7 +189,7 @@ message_made bytes area behind i c ps short fits s p said_is area_is t lengths b
     let word_fits : (k : ℕ) → number (drop k bytes) < 2 ^ 64 = λ k. number_fits (drop k bytes) (IsBytes-drop k bytes fits) in
     let sum : sum_by padded_length c.lengths ≡ length behind = ap (sum_by padded_length) (sym lengths) ∙ sym (length-laid ps) ∙ ap length (sym behind_is) in
     let ends : begins n c.lengths < 2 ^ 64 = omega (arith, p.total) in
-    let tells : IsTold n c = record { creds = t.creds; names = t.names; description = t.description; moment = t.moment; name = t.name; few = t.few; ends = ends; range = t.range } in
+    let tells : IsTold n c = record { creds = t.creds; names = t.names; order = t.order; description = t.description; moment = t.moment; name = t.name; few = t.few; ends = ends; range = t.range } in
     let told_so : IsTold (front_length (contents m a)) (contents m a) = subst (λ (k : ℕ). IsTold k (contents m a)) (sym sizes) (subst (IsTold n) (sym same) tells) in
     let back : cast_unsigned w64 (cast_signed w64 h.priority) ≡ h.priority = of_z-to_z w64 h.priority (word_fits 16) in
     let sound : IsSent m h.source h.dst a = record { flags = s.flags; priority = sfits_to_z {w = w64} {n = h.priority} (omega (arith, word_fits 16)); source = word_fits 32; dst = word_fits 24; payload_type = word_fits 40; cookie = word_fits 48; last = word_fits 56; items = told_so } in

@@ -5,13 +5,13 @@ use Rattle.std.specs.Int.{cast_unsigned, w64}
 use Rattle.std.proofs.lemmas.List.{length-replicate, take-append-drop, take_more, map_more, take-map}
 use Rattle.std.proofs.lemmas.List.Sums.{sum_by-cons}
 use Rattle.std.proofs.lemmas.Grind.{flat_map-append}
-use Rattle.kd_item.specs.Spelling.{Entry, padding, word, spelling, spellings}
+use Rattle.kd_item.specs.Spelling.{Entry, padding, word, spelling, spellings, words}
 use Rattle.kd_item.proofs.Words.{length-word}
 use Rattle.kd_types.specs.declared.creds.Creds.{Creds}
 use Rattle.kd_image.specs.declared.message.SealedRange.{SealedRange}
 use Rattle.kd_image.specs.declared.message.Message.{Message}
 use Rattle.kd_image.specs.declared.attached.Attached.{Attached}
-use Rattle.kd_image.specs.Items.{words, flag, padded_length, item, maybe, creds_item, owned_item, description_item, moment_item, name_item, off_item, off_items, shared_item, with_range, Contents, contents, attached_items, items, begins}
+use Rattle.kd_image.specs.Items.{flag, padded_length, item, maybe, creds_item, owned_item, description_item, moment_item, name_item, off_item, off_items, shared_item, with_range, Contents, contents, attached_items, items, begins}
 use Rattle.kd_image.specs.Images.{padded, laid, header, front_length, front, image, image_length}
 
 pub length-words : (ns : List ℕ) → length (words ns) ≡ 8 * length ns

@@ -9,7 +9,7 @@ use Rattle.std.proofs.lemmas.Int.{to_z-of_z}
 use Rattle.std.proofs.Math.Facts.{Fits-of_z}
 use Rattle.kd_types.specs.declared.reply_error.ReplyError.{ReplyError}
 use Rattle.kd_types.specs.declared.reply_error.ReplyError.TheVariants.{Bad, OutOfMemory}
-use Rattle.kd_item.specs.Spelling.{Entry, Fits, AreItems, number, padding, spelling, spellings}
+use Rattle.kd_item.specs.Spelling.{Entry, Fits, AreItems, number, padding, spelling, spellings, words}
 use Rattle.kd_item.specs.Reading.{item_at, split, placed}
 use Rattle.kd_item.proofs.OneItem.{item_again}
 use Rattle.kd_item.proofs.Splits.{split_again, none_at_end}
@@ -18,9 +18,9 @@ use Rattle.kd_image.specs.declared.attached.Attached.{Attached}
 use Rattle.kd_image.specs.declared.notice.Notice.{Notice}
 use Rattle.kd_image.specs.declared.header.Header.{Header}
 use Rattle.kd_image.specs.declared.image.Image.{Image}
-use Rattle.kd_image.specs.Items.{words, Contents, contents, items}
+use Rattle.kd_image.specs.Items.{Contents, contents, items}
 use Rattle.kd_image.specs.declared.notice.Notice.TheVariants.{IdAdd, IdRemove, NameAdd, NameRemove, NameChange, ReplyTimeout, ReplyDead}
-use Rattle.kd_image.specs.Images.{notice_item, notice_destination, notice_last, notice_image, laid, header, front_length, front, image}
+use Rattle.kd_image.specs.Images.{notice_item, notice_destination, notice_last, notice_image, laid, header, message_header, front_length, front, image}
 use Rattle.kd_image.specs.Said.{Origin, sent, told, IsSent, IsTold, IsNotice, IsWord, IsText, IsSound, Gives, bytes_of, value_of}
 use Rattle.kd_types.specs.Flags.{has_only}
 use Rattle.kd_image.specs.Reading.{blank, read_on, header_break, header_of, with_item, contents_in, id_in, owners_in, is_header_of, notice_of, notice_in, notice_reading, notice_value, message_reading, message_value, behind_header, reading, payloads_from}
@@ -244,6 +244,15 @@ message_again m source dst a t =
     let head : header_of bytes ≡ h = header_again bytes n m.flags.0 p dst source m.payload_type m.cookie m.last words_in in
     let back : cast_signed w64 p ≡ m.priority = to_z-of_z w64 m.priority t.priority in
     reading_apart bytes words8 area (laid m.payloads) h refl len (words_in.at0 ∙ sym size) stands head ∙ behind_again h c m.payloads refl refl items_told short ∙ rw back refl
+
+-- header and items of what can be sent, with its payloads behind them
+pub built_again : (m : Message) (source dst : ℕ) (a : Attached) (size : ℕ) (bytes : List ℕ) → size ≡ front_length (contents m a)
+    → bytes ≡ message_header size m source dst ++ spellings (items size (contents m a)) → IsSent m source dst a
+    → reading (bytes ++ laid m.payloads) ≡ Ok (value_of (sent m source dst a))
+unfolding image front
+built_again m source dst a size bytes len is t =
+    let whole : bytes ≡ front m source dst a = is ∙ ap (λ (n : ℕ). message_header n m source dst ++ spellings (items n (contents m a))) len in
+    ap (λ (l : List ℕ). reading (l ++ laid m.payloads)) whole ∙ message_again m source dst a t
 
 -- notices
 owners_again : (old new : ℕ) (name : List ℕ) → IsWord old → IsWord new → IsText name → owners_in (words (old ∷ new ∷ []) ++ name) ≡ Some (old, new, name)

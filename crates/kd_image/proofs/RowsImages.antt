@@ -2,10 +2,10 @@
 use Rattle.std.proofs.Common.{◌≡◌, [], ◌∷◌, ◌++◌, false, None, Some, pos, refl}
 use Rattle.std.specs.Prelude.{codes}
 use Rattle.kd_item.specs.Spelling as spelling
+use Rattle.kd_item.specs.Spelling.{words}
 use Rattle.kd_image.specs.declared.message.Message.{Message}
 use Rattle.kd_image.specs.declared.attached.Attached.{Attached}
 use Rattle.kd_image.specs.declared.notice.Notice.TheVariants.{IdAdd, ReplyTimeout}
-use Rattle.kd_image.specs.Items.{words}
 use Rattle.kd_image.specs.Images.{any, header, front_length, front, image, image_length, notice_image}
 
 nothing : Attached

@@ -8,11 +8,11 @@ use Rattle.kd_types.specs.declared.creds.Creds.{Creds}
 use Rattle.kd_types.specs.declared.reply_error.ReplyError.{ReplyError}
 use Rattle.kd_types.specs.declared.reply_error.ReplyError.TheVariants.{Bad}
 use Rattle.kd_types.specs.Words.{is_empty}
-use Rattle.kd_item.specs.Spelling.{Entry, word, number, padding, spelling, spellings}
+use Rattle.kd_item.specs.Spelling.{Entry, word, number, padding, spelling, spellings, words}
 use Rattle.kd_item.specs.Reading.{placed}
 use Rattle.kd_item.proofs.Words.{IsBytes, IsBytes-drop, IsBytes-take, word_front, number_fits}
 use Rattle.kd_image.specs.declared.message.SealedRange.{SealedRange}
-use Rattle.kd_image.specs.Items.{words, flag, maybe, creds_item, owned_item, description_item, moment_item, name_item, off_item, off_items, shared_item, with_range, begins, Contents, items}
+use Rattle.kd_image.specs.Items.{flag, maybe, creds_item, owned_item, description_item, moment_item, name_item, off_item, off_items, shared_item, with_range, begins, Contents, items, rising}
 use Rattle.kd_image.specs.Said.{IsWord, IsText}
 use Rattle.kd_image.specs.Reading.{no_payload, no_name, no_moment, no_description, no_item, with_creds, with_owned, with_description, with_moment, with_name, with_off, with_shared, with_item, read_on}
 use Rattle.kd_image.proofs.Written.{offs_behind, length-off_items}
@@ -131,6 +131,7 @@ push_f a b c d e f y = sym (append_assoc (a ++ b ++ c ++ d ++ e) f (y ∷ []))
 pub record SoFar (c : Contents) : Type 0 where
   pub creds : IfSome c.creds (λ x. (x.uid < 2 ^ 32) × (x.gid < 2 ^ 32))
   pub names : AllByRecursion IsText c.names
+  pub order : rising c.names ≡ true
   pub description : IfSome c.description (λ t. (length t ≤ 255) × IsText t)
   pub moment : IfSome c.moment IsWord
   pub name : IfSome c.name IsText
@@ -176,11 +177,13 @@ adds_owned size c d e ek s is =
     let q = not_described c (not-false (no_description c) a.0) in
     let b = passed (not (is_utf8 e.body)) _ d a.1 in
     let text : is_utf8 e.body ≡ true = not-false (is_utf8 e.body) b.0 in
+    let r = passed (not (rising (c.names ++ e.body ∷ []))) _ d b.1 in
+    let up : rising (c.names ++ e.body ∷ []) ≡ true = not-false (rising (c.names ++ e.body ∷ [])) r.0 in
     let new : Contents = record c { names = c.names ++ e.body ∷ [] } in
-    let made : new ≡ d = some_is new d b.1 in
+    let made : new ≡ d = some_is new d r.1 in
     let before : c ≡ said c.creds c.names None None None [] None = fields c None None None [] None q.0 q.1 q.2 q.3 q.4 in
     let after : new ≡ said c.creds (c.names ++ e.body ∷ []) None None None [] None = fields new None None None [] None q.0 q.1 q.2 q.3 q.4 in
-    let told : SoFar new = record { creds = s.creds; names = all_push IsText c.names e.body s.names text; description = s.description; moment = s.moment; name = s.name; few = s.few; range = s.range } in
+    let told : SoFar new = record { creds = s.creds; names = all_push IsText c.names e.body s.names text; order = up; description = s.description; moment = s.moment; name = s.name; few = s.few; range = s.range } in
     subst (Adds size c e) made (record {
       behind = spelled_so size c new (said c.creds c.names None None None [] None) (said c.creds (c.names ++ e.body ∷ []) None None None [] None) e (owned_item e.body) before after (shape_owned size c.creds c.names e.body) (entry_is e 22 e.body ek refl);
       told = told;
@@ -199,7 +202,7 @@ adds_description size c d e ek s is =
     let made : new ≡ d = some_is new d t.1 in
     let before : c ≡ said c.creds c.names None None None [] None = fields c None None None [] None q.0 q.1 q.2 q.3 q.4 in
     let after : new ≡ said c.creds c.names (Some e.body) None None [] None = fields new (Some e.body) None None [] None refl q.1 q.2 q.3 q.4 in
-    let told : SoFar new = record { creds = s.creds; names = s.names; description = (short, text); moment = s.moment; name = s.name; few = s.few; range = s.range } in
+    let told : SoFar new = record { creds = s.creds; names = s.names; order = s.order; description = (short, text); moment = s.moment; name = s.name; few = s.few; range = s.range } in
     subst (Adds size c e) made (record {
       behind = spelled_so size c new (said c.creds c.names None None None [] None) (said c.creds c.names (Some e.body) None None [] None) e (description_item e.body) before after (push_c (maybe creds_item c.creds) (map owned_item c.names) (description_item e.body)) (entry_is e 10 e.body ek refl);
       told = told;
@@ -217,7 +220,7 @@ adds_moment size c d e ek fits s is =
     let made : new ≡ d = some_is new d b.1 in
     let before : c ≡ said c.creds c.names c.description None None [] None = fields c c.description None None [] None refl q.0 q.1 q.2 q.3 in
     let after : new ≡ said c.creds c.names c.description (Some m) None [] None = fields new c.description (Some m) None [] None refl refl q.1 q.2 q.3 in
-    let told : SoFar new = record { creds = s.creds; names = s.names; description = s.description; moment = number_fits e.body fits; name = s.name; few = s.few; range = s.range } in
+    let told : SoFar new = record { creds = s.creds; names = s.names; order = s.order; description = s.description; moment = number_fits e.body fits; name = s.name; few = s.few; range = s.range } in
     subst (Adds size c e) made (record {
       behind = spelled_so size c new (said c.creds c.names c.description None None [] None) (said c.creds c.names c.description (Some m) None [] None) e (moment_item m) before after (push_d (maybe creds_item c.creds) (map owned_item c.names) (maybe description_item c.description) (moment_item m)) (entry_is e 23 (words (m ∷ []) ++ []) ek (one_number e.body len fits));
       told = told;
@@ -234,7 +237,7 @@ adds_name size c d e ek s is =
     let made : new ≡ d = some_is new d b.1 in
     let before : c ≡ said c.creds c.names c.description c.moment None [] None = fields c c.description c.moment None [] None refl refl q.0 q.1 q.2 in
     let after : new ≡ said c.creds c.names c.description c.moment (Some e.body) [] None = fields new c.description c.moment (Some e.body) [] None refl refl refl q.1 q.2 in
-    let told : SoFar new = record { creds = s.creds; names = s.names; description = s.description; moment = s.moment; name = text; few = s.few; range = s.range } in
+    let told : SoFar new = record { creds = s.creds; names = s.names; order = s.order; description = s.description; moment = s.moment; name = text; few = s.few; range = s.range } in
     subst (Adds size c e) made (record {
       behind = spelled_so size c new (said c.creds c.names c.description c.moment None [] None) (said c.creds c.names c.description c.moment (Some e.body) [] None) e (name_item e.body) before after (push_e (maybe creds_item c.creds) (map owned_item c.names) (maybe description_item c.description) (maybe moment_item c.moment) (name_item e.body)) (entry_is e 3 e.body ek refl);
       told = told;
@@ -272,7 +275,7 @@ adds_off size c d e ek fits s is =
     let ranged : with_range c.range (off_items size [] (c.lengths ++ l ∷ [])) ≡ with_range c.range (off_items size [] c.lengths) ++ y ∷ [] = ap (with_range c.range) more ∙ push_range c.range (off_items size [] c.lengths) y (place_within c.range size c.lengths s.range) in
     let front : List Entry = maybe creds_item c.creds ++ map owned_item c.names ++ maybe description_item c.description ++ maybe moment_item c.moment ++ maybe name_item c.name in
     let shape : items size new ≡ items size c ++ y ∷ [] = ap (λ (k : List Entry). front ++ k) ranged ∙ sym (append_assoc front (with_range c.range (off_items size [] c.lengths)) (y ∷ [])) in
-    let told : SoFar new = record { creds = s.creds; names = s.names; description = s.description; moment = s.moment; name = s.name; few = omega (arith, length-append c.lengths (l ∷ [])); range = place_further c.range c.lengths l s.range } in
+    let told : SoFar new = record { creds = s.creds; names = s.names; order = s.order; description = s.description; moment = s.moment; name = s.name; few = omega (arith, length-append c.lengths (l ∷ [])); range = place_further c.range c.lengths l s.range } in
     subst (Adds size c e) made (record { behind = spelled_so size c new c new e y refl refl shape (entry_is e 19 (words (l ∷ begins size c.lengths ∷ []) ++ []) ek numbers); told = told })
 
 adds_shared : (size : ℕ) (c d : Contents) (e : Entry) → e.kind ≡ 20 → IsBytes e.body → SoFar c → with_shared c e.body ≡ Some d → Adds size c e d
@@ -294,7 +297,7 @@ adds_shared size c d e ek fits s is =
     let front : List Entry = maybe creds_item c.creds ++ map owned_item c.names ++ maybe description_item c.description ++ maybe moment_item c.moment ++ maybe name_item c.name in
     let before : items size c ≡ front ++ offs = ap (λ (k : Option SealedRange). front ++ with_range k offs) alone in
     let shape : items size new ≡ items size c ++ y ∷ [] = ap (λ (k : List Entry). front ++ k) ranged ∙ sym (append_assoc front offs (y ∷ [])) ∙ ap (λ (k : List Entry). k ++ y ∷ []) (sym before) in
-    let told : SoFar new = record { creds = s.creds; names = s.names; description = s.description; moment = s.moment; name = s.name; few = s.few; range = (omega arith, number_fits e.body fits, number_fits (drop 8 e.body) (IsBytes-drop 8 e.body fits)) } in
+    let told : SoFar new = record { creds = s.creds; names = s.names; order = s.order; description = s.description; moment = s.moment; name = s.name; few = s.few; range = (omega arith, number_fits e.body fits, number_fits (drop 8 e.body) (IsBytes-drop 8 e.body fits)) } in
     subst (Adds size c e) made (record { behind = spelled_so size c new c new e y refl refl shape (entry_is e 20 (words (r.start ∷ r.length ∷ []) ++ []) ek numbers); told = told })
 
 adds_creds : (size : ℕ) (c d : Contents) (e : Entry) → e.kind ≡ 21 → IsBytes e.body → SoFar c → with_creds c e.body ≡ Some d → Adds size c e d
@@ -324,7 +327,7 @@ adds_creds size c d e ek fits s is =
     let before : c ≡ old = fields c None None None [] None q.0 q.1 q.2 q.3 q.4 ∙ ap (λ (k : Option Creds). said k c.names None None None [] None) first ∙ ap (λ (k : List (List ℕ)). said None k None None None [] None) second in
     let after : new ≡ said (Some x) [] None None None [] None = fields new None None None [] None q.0 q.1 q.2 q.3 q.4 ∙ ap (λ (k : List (List ℕ)). said (Some x) k None None None [] None) second in
     let numbers : e.body ≡ words (n0 ∷ n1 ∷ flag (eqb n2 1) ∷ []) ++ [] = three_numbers e.body len fits ∙ ap (λ (k : ℕ). words (n0 ∷ n1 ∷ k ∷ []) ++ []) (sym (bit_again n2 bit)) in
-    let told : SoFar new = record { creds = (uid, gid); names = s.names; description = s.description; moment = s.moment; name = s.name; few = s.few; range = s.range } in
+    let told : SoFar new = record { creds = (uid, gid); names = s.names; order = s.order; description = s.description; moment = s.moment; name = s.name; few = s.few; range = s.range } in
     subst (Adds size c e) made (record { behind = spelled_so size c new old (said (Some x) [] None None None [] None) e (creds_item x) before after refl (entry_is e 21 (words (n0 ∷ n1 ∷ flag (eqb n2 1) ∷ []) ++ []) ek numbers); told = told })
 
 -- whatever its kind

@@ -1,26 +1,14 @@
 -- What is written piece by piece.
-use Rattle.std.proofs.Common.{◌≡◌, ℕ, suc, ◌+◌, ◌*◌, ◌<◌, ◌≤◌, min, List, [], ◌∷◌, ◌++◌, length, get_or, take, drop, map, replicate, Some, refl, sym, ap, ◌∙◌, arith, append_assoc, length-append}
+use Rattle.std.proofs.Common.{◌≡◌, ℕ, suc, ◌+◌, ◌<◌, ◌≤◌, min, List, [], ◌∷◌, ◌++◌, length, get_or, take, drop, map, Some, refl, sym, ap, ◌∙◌, arith, append_assoc}
 use Rattle.std.specs.List.{sum_by}
 use Rattle.std.proofs.lemmas.List.{map_more, append-nil, take-map, take_min, drop_min, take_at, drop_at, length-map, map-append, length-take-le, take-append-drop}
 use Rattle.std.proofs.lemmas.List.Sums.{sum_by_push, sum_by-append, sum_by-take-le}
 use Rattle.std.proofs.lemmas.Grind.{flat_map-append}
-use Rattle.kd_item.specs.Spelling.{Entry, padding, word, spelling, spellings}
+use Rattle.kd_item.specs.Spelling.{Entry, spelling, spellings}
 use Rattle.kd_image.specs.declared.message.SealedRange.{SealedRange}
 use Rattle.kd_image.specs.declared.message.Message.{Message}
 use Rattle.kd_image.specs.declared.attached.Attached.{Attached}
-use Rattle.kd_image.specs.Items.{words, padded_length, item, maybe, creds_item, owned_item, moment_item, shared_item, with_range, off_item, off_items, begins, contents, items}
-use Rattle.kd_image.proofs.Lengths.{length-words}
-
--- the pieces of an item
-pub one_item : (old ns text : List ℕ) (kind size : ℕ) → size ≡ 16 + 8 * length ns + length text
-    → old ++ words (size ∷ kind ∷ []) ++ words ns ++ text ++ replicate (padding size) 0 ≡ old ++ spelling (item kind ns text)
-one_item old ns text kind size e =
-    let body : List ℕ = words ns ++ text in
-    let total : size ≡ 16 + length body = omega (arith, length-append (words ns) text, length-words ns) in
-    let two : words (size ∷ kind ∷ []) ≡ word size ++ word kind = ap (λ (l : List ℕ). word size ++ l) (append-nil (word kind)) in
-    let zs : List ℕ = replicate (padding size) 0 in
-    let flat : old ++ (word size ++ word kind) ++ words ns ++ text ++ zs ≡ old ++ (word size ++ word kind ++ (words ns ++ text) ++ zs) = simp append_assoc refl in
-    rw two (flat ∙ ap (λ (n : ℕ). old ++ (word n ++ word kind ++ body ++ replicate (padding n) 0)) total)
+use Rattle.kd_image.specs.Items.{padded_length, item, maybe, creds_item, owned_item, moment_item, shared_item, with_range, off_item, off_items, begins, contents, items}
 
 -- one item more
 pub push_one : {X : Type 0} (f : X → Entry) (start : List ℕ) (xs : List X) (i : ℕ) (d : X) → i < length xs

@@ -2,12 +2,12 @@
 use Rattle.std.specs.Prelude.{ℕ, ◌+◌, ◌-◌, ◌^◌, ℤ, List, [], ◌∷◌, ◌++◌, length, replicate}
 use Rattle.std.specs.List.{flat_map}
 use Rattle.std.specs.Int.{cast_unsigned, w64}
-use Rattle.kd_item.specs.Spelling.{Entry, padding, spelling, spellings}
+use Rattle.kd_item.specs.Spelling.{Entry, padding, spelling, spellings, words}
 use Rattle.kd_image.specs.declared.message.Message.{Message}
 use Rattle.kd_image.specs.declared.attached.Attached.{Attached}
 use Rattle.kd_image.specs.declared.notice.Notice.{Notice}
 use Rattle.kd_image.specs.declared.notice.Notice.TheVariants.{IdAdd, IdRemove, NameAdd, NameRemove, NameChange, ReplyTimeout, ReplyDead}
-use Rattle.kd_image.specs.Items.{words, item, Contents, contents, items}
+use Rattle.kd_image.specs.Items.{item, Contents, contents, items}
 
 -- a payload and the zeros up to the next multiple of 8
 abbrev pub padded : List ℕ → List ℕ

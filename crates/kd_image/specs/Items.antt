@@ -1,15 +1,12 @@
 -- What the items of a message tell, and the items that tell it.
-use Rattle.std.specs.Prelude.{ℕ, ◌+◌, Bool, true, false, List, [], ◌∷◌, ◌++◌, length, take, drop, map, Option, Some, None}
-use Rattle.std.specs.List.{flat_map, sum_by}
+use Rattle.std.specs.Prelude.{ℕ, ◌+◌, Bool, true, false, ◌&&◌, List, [], ◌∷◌, ◌++◌, length, take, drop, map, Option, Some, None}
+use Rattle.std.specs.List.{sum_by}
+use Rattle.kd_model.specs.Words.{text_below}
 use Rattle.kd_types.specs.declared.creds.Creds.{Creds}
-use Rattle.kd_item.specs.Spelling.{Entry, padding, word}
+use Rattle.kd_item.specs.Spelling.{Entry, padding, words}
 use Rattle.kd_image.specs.declared.message.SealedRange.{SealedRange}
 use Rattle.kd_image.specs.declared.message.Message.{Message}
 use Rattle.kd_image.specs.declared.attached.Attached.{Attached}
-
--- numbers, eight bytes each
-abbrev pub words : List ℕ → List ℕ
-words ns = flat_map word ns
 
 -- so many bytes, and the zeros up to the next multiple of 8
 abbrev pub padded_length : ℕ → ℕ
@@ -30,6 +27,12 @@ creds_item c = item 21 (c.uid ∷ c.gid ∷ flag c.privileged ∷ []) []
 -- a name that the sender owns
 abbrev pub owned_item : List ℕ → Entry
 owned_item name = item 22 [] name
+
+-- names in byte order, each of them once
+abbrev pub rising : List (List ℕ) → Bool
+rising [] = true
+rising (n ∷ []) = true
+rising (n ∷ m ∷ ns) = text_below n m && rising (m ∷ ns)
 
 abbrev pub description_item : List ℕ → Entry
 description_item text = item 10 [] text

@@ -11,13 +11,9 @@ use Rattle.kd_item.specs.Reading.{item_at, entries, left_over, placed, are_zeros
 use Rattle.kd_image.specs.declared.notice.Notice.{Notice}
 use Rattle.kd_image.specs.declared.notice.Notice.TheVariants.{IdAdd, IdRemove, NameAdd, NameRemove, NameChange, ReplyTimeout, ReplyDead}
 use Rattle.kd_image.specs.declared.header.Header.{Header}
-use Rattle.kd_image.specs.declared.first.Item.{Item}
 use Rattle.kd_image.specs.declared.image.Image.{Image}
-use Rattle.kd_image.specs.Items.{Contents, begins, padded_length}
+use Rattle.kd_image.specs.Items.{Contents, begins, padded_length, rising}
 use Rattle.kd_image.specs.Images.{notice_destination, notice_last}
-
-abbrev pub entry_of : Item → Entry
-entry_of i = record { kind = i.kind; body = i.body.now }
 
 -- where the header breaks the format, if it does: the size word where it isn't the size of a header and items that the
 -- bytes have, the flags where one is unknown
@@ -78,10 +74,12 @@ with_creds c body =
     else if not (nat_lt (number (drop 16 body)) 2) then None
     else Some (record c { creds = Some (record { uid = number body; gid = number (drop 8 body); privileged = number (drop 16 body) == 1 }) })
 
+-- a name stands behind those before it in byte order
 unfoldable pub with_owned : Contents → List ℕ → Option Contents
 with_owned c body =
     if not (no_description c) then None
     else if not (is_utf8 body) then None
+    else if not (rising (c.names ++ body ∷ [])) then None
     else Some (record c { names = c.names ++ body ∷ [] })
 
 unfoldable pub with_description : Contents → List ℕ → Option Contents

@@ -11,7 +11,7 @@ use Rattle.kd_image.specs.declared.attached.Attached.{Attached}
 use Rattle.kd_image.specs.declared.notice.Notice.{Notice}
 use Rattle.kd_image.specs.declared.notice.Notice.TheVariants.{IdAdd, IdRemove, NameAdd, NameRemove, NameChange, ReplyTimeout, ReplyDead}
 use Rattle.kd_image.specs.declared.image.Image.{Image}
-use Rattle.kd_image.specs.Items.{Contents, contents, begins}
+use Rattle.kd_image.specs.Items.{Contents, contents, begins, rising}
 use Rattle.kd_item.specs.Spelling.{spelling}
 use Rattle.kd_image.specs.Images.{front_length, image, notice_item, notice_image, notice_destination, notice_last}
 
@@ -68,10 +68,12 @@ abbrev pub IsText : List ℕ → Type 0
 IsText text = is_utf8 text ≡ true
 
 -- items can tell this, in an image whose header and items have so many bytes: numbers are of their width, texts are
--- texts, a description isn't too long, a message has at most 16 payloads, and the range stands among them
+-- texts, names rise in byte order, a description isn't too long, a message has at most 16 payloads, and the range
+-- stands among them
 pub record IsTold (size : ℕ) (c : Contents) : Type 0 where
   pub creds : IfSome c.creds (λ x. (x.uid < 2 ^ 32) × (x.gid < 2 ^ 32))
   pub names : AllByRecursion IsText c.names
+  pub order : rising c.names ≡ true
   pub description : IfSome c.description (λ t. (length t ≤ 255) × IsText t)
   pub moment : IfSome c.moment IsWord
   pub name : IfSome c.name IsText

@@ -8,7 +8,7 @@ use kd_types::{Creds, Moment, Text, TextList};
 pub struct Attached {
     /// The sender's credentials.
     pub creds: Option<Creds>,
-    /// The names that the sender owns and the receiver may see, in byte order.
+    /// The names that the sender owns and the receiver may see. In an image they rise in byte order.
     pub names: TextList,
     /// What the sender calls itself, at most 255 bytes.
     pub description: Option<Text>,

@@ -1,9 +1,11 @@
 //! Building images.
 
-ghost use Rattle.std.specs.Prelude.{◌≡◌, ◌^◌, ◌<◌, ◌++◌, [], ◌∷◌, IfOk, OnOk, length, map};
+ghost use Rattle.std.specs.Prelude.{◌≡◌, ◌^◌, ◌<◌, ◌++◌, [], ◌∷◌, Ok, IfOk, OnOk, length, map};
 ghost use Rattle.kd_item.specs.Spelling.{spellings};
 ghost use Rattle.kd_image.specs.Items.{item, maybe, creds_item, owned_item, moment_item, off_items, shared_item, begins, with_range, contents, items};
-ghost use Rattle.kd_image.specs.Images.{front, image_length, message_header};
+ghost use Rattle.kd_image.specs.Images.{front, image_length, laid, message_header};
+ghost use Rattle.kd_image.specs.Said.{IsSent, sent, value_of};
+ghost use Rattle.kd_image.specs.Reading.{reading};
 
 use crate::attached::Attached;
 use crate::kind::{CREDS, DESCRIPTION, DST_NAME, MOMENT, OFF, OWNED, SHARED};
@@ -137,8 +139,9 @@ fn put_items(
     Ok(())
 }
 
-/// Header and items of the message's image: the prefix that is published in front of its payloads. It takes memory
-/// once, as much as the prefix has bytes.
+/// Header and items of the message's image: the prefix that is published in front of its payloads. The names that are
+/// attached are written in the order in which they are handed in. It takes memory once, as much as the prefix has
+/// bytes.
 #[tactic(auto, using(crate::proofs::Lengths::length_parts), unfolding(crate::specs::Images::front))]
 pub fn build(
     alloc: Global,
@@ -148,7 +151,10 @@ pub fn build(
     attached: &Attached,
 ) -> Result<Vec<u8>, AllocError>
     requires { image_length message.now attached.now < 2 ^ 32 }
-    ensures { IfOk result (λ v. v.items ≡ front message.now sender dst attached.now) }
+    ensures front { IfOk result (λ v. v.items ≡ front message.now sender dst attached.now) }
+    // Of what can be sent, with names that rise in byte order, the prefix and the payloads read back as what they were
+    // built from.
+    ensures again { IsSent message.now sender dst attached.now → IfOk result (λ v. reading (v.items ++ laid message.now.payloads) ≡ Ok (value_of (sent message.now sender dst attached.now))) }
 {
     let size = front_len(message, attached);
     let mut out = Vec::with_capacity(alloc, size)?;

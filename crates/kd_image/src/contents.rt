@@ -4,7 +4,7 @@ ghost use Rattle.std.specs.Prelude.{◌≡◌, ◌≢◌, ◌+◌, Ok, Err, leng
 ghost use Rattle.kd_image.specs.Reading.{contents_in};
 
 use crate::draft::Draft;
-use crate::first::first_item;
+use kd_item::first_item;
 use kd_types::ReplyError;
 use std::alloc::Global;
 
@@ -17,16 +17,16 @@ pub(crate) fn read_contents(alloc: Global, size: u64, area: &[u8]) -> Result<Dra
 {
     let mut draft = Draft::blank(alloc);
     let mut rest = area;
-    let mut at = 64;
+    let mut at: usize = 64;
     'items: while !rest.is_empty() {
-        let Some((item, taken)) = first_item(rest) else {
-            return Err(ReplyError::Bad { at });
+        let Some((item, taken)) = first_item(rest, at) else {
+            return Err(ReplyError::Bad { at: at as u64 });
         };
         if !draft.add(alloc, size, item)? {
-            return Err(ReplyError::Bad { at });
+            return Err(ReplyError::Bad { at: at as u64 });
         }
         rest = rest.split_at(taken).1;
-        at += taken as u64;
+        at += taken;
     }
     Ok(draft)
 }

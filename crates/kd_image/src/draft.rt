@@ -1,15 +1,15 @@
 //! What the items of a message say, as far as they are read.
 
-ghost use Rattle.std.specs.Prelude.{◌≡◌, ◌^◌, ◌≤◌, IfOk, IfErr, IfSome, IfNone, vec_len};
+ghost use Rattle.std.specs.Prelude.{◌≡◌, ◌^◌, ◌≤◌, IsTrue, IfOk, IfErr, IfSome, IfNone, vec_len};
 ghost use Rattle.std.specs.Str.{is_utf8};
-ghost use Rattle.kd_image.specs.Items.{Contents, begins};
-ghost use Rattle.kd_image.specs.Reading.{blank, entry_of, if_taken, no_description, no_item, no_moment, no_name, no_payload, with_creds, with_description, with_item, with_moment, with_name, with_off, with_owned, with_shared};
+ghost use Rattle.kd_image.specs.Items.{Contents, begins, rising};
+ghost use Rattle.kd_item.specs.Reading.{entry};
+ghost use Rattle.kd_image.specs.Reading.{blank, if_taken, no_description, no_item, no_moment, no_name, no_payload, with_creds, with_description, with_item, with_moment, with_name, with_off, with_owned, with_shared};
 
-use crate::first::Item;
-use crate::header::word_at;
 use crate::kind::{CREDS, DESCRIPTION, DST_NAME, MOMENT, OFF, OWNED, SHARED};
 use crate::message::SealedRange;
-use crate::writing::padding;
+use crate::order::may_follow;
+use kd_item::{Item, padding, word_at};
 use kd_types::{Creds, Moment, ReplyError, Text};
 use std::alloc::Global;
 use std::marker::Model;
@@ -56,7 +56,7 @@ pub(crate) struct Draft {
 impl Model for Draft {
     ghost Value = { Contents };
 
-    ghost invariant = { λ d. vec_len d.lengths ≤ 16 };
+    ghost invariant = { λ d. (vec_len d.lengths ≤ 16) × IsTrue (rising d.names.items) };
 
     ghost view = { λ d. record { creds = d.creds; names = d.names.items; description = d.description; moment = d.moment; name = d.name; lengths = d.lengths.items; range = d.range } };
 }
@@ -146,6 +146,9 @@ impl Draft {
             return Ok(false);
         }
         if !is_text(body) {
+            return Ok(false);
+        }
+        if !may_follow(&self.names, body) {
             return Ok(false);
         }
         self.names.push(Text::of(alloc, body)?)?;
@@ -246,7 +249,7 @@ impl Draft {
         size: u64,
         item: Item<'_>,
     ) -> Result<bool, ReplyError>
-        ensures ok { IfOk result (λ taken. if_taken taken self.new ≡ with_item size self.old (entry_of item.entry)) }
+        ensures ok { IfOk result (λ taken. if_taken taken self.new ≡ with_item size self.old (entry item.entry)) }
         ensures err { IfErr result (λ e. e ≡ ReplyError.OutOfMemory) }
     {
         match item.kind {

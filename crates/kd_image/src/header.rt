@@ -1,10 +1,10 @@
 //! Reading headers.
 
-ghost use Rattle.std.specs.Prelude.{◌≡◌, ◌+◌, ◌^◌, ◌<◌, ◌≤◌, length, drop, IfNone};
+ghost use Rattle.std.specs.Prelude.{◌≡◌, ◌^◌, ◌<◌, ◌≤◌, length, IfNone};
 ghost use Rattle.kd_item.specs.Spelling.{number};
 ghost use Rattle.kd_image.specs.Reading.{header_break, header_of};
 
-use byteorder::{ByteOrder, LittleEndian};
+use kd_item::word_at;
 use kd_types::SendFlags;
 
 /// The eight words in front of an image.
@@ -19,15 +19,6 @@ pub(crate) struct Header {
     pub(crate) payload_type: u64,
     pub(crate) cookie: u64,
     pub(crate) last: u64,
-}
-
-/// The word that begins at this byte.
-#[tactic(auto, unfolding(kd_item::specs::Spelling::number))]
-pub(crate) fn word_at(bytes: &[u8], at: usize) -> u64
-    requires { at + 8 ≤ length bytes.now }
-    ensures { result ≡ number (drop at bytes.now) }
-{
-    LittleEndian::read_u64(bytes.split_at(at).1)
 }
 
 /// Where the header breaks the format, if it does: the size word where it isn't the size of a header and items that

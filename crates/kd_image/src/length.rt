@@ -7,7 +7,7 @@ ghost use Rattle.kd_image.specs.Images.{front_length, image, image_length, laid}
 
 use crate::attached::Attached;
 use crate::message::{Message, SealedRange};
-use crate::writing::padding;
+use kd_item::padding;
 use kd_types::{Blob, Creds, Moment, Text};
 
 /// The bytes of the eight words in front of each image.

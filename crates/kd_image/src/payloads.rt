@@ -4,8 +4,7 @@ ghost use Rattle.std.specs.Prelude.{◌≡◌, ◌≢◌, ◌+◌, ◌^◌, ◌<
 ghost use Rattle.kd_image.specs.Items.{padded_length};
 ghost use Rattle.kd_image.specs.Reading.{payload_at, payloads_from};
 
-use crate::first::are_zeros;
-use crate::writing::padding;
+use kd_item::{are_zeros, padding};
 use kd_types::{Blob, ReplyError};
 use std::alloc::Global;
 

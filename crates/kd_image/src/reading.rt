@@ -121,7 +121,8 @@ fn read_bytes(alloc: Global, bytes: &[u8]) -> Result<Image, ReplyError>
 
 /// What an image says. Bytes that are no image are refused with the place of the first word, item or run of bytes that
 /// breaks the format, read from left to right: one that would run past the end of the bytes or of its header breaks at
-/// its own start, what is left over at its start, and what is missing where it would begin.
+/// its own start, what is left over at its start, and what is missing where it would begin. An item out of order breaks
+/// at its start, and so does an owned name that isn't above the one before it in byte order.
 pub fn read_image(alloc: Global, bytes: &[u8]) -> Result<Image, ReplyError>
     // What is read was built from what it says.
     ensures found { IfOk result (λ i. (o : Origin) × IsSound o × (i ≡ value_of o) × (bytes.now ≡ bytes_of o)) }

@@ -1,16 +1,17 @@
 //! Reading notices.
 
 ghost use Rattle.std.specs.Prelude.{◌≡◌, ◌≤◌, length, option_map, IfOk, IfErr, IfSome};
-ghost use Rattle.kd_image.specs.Reading.{entry_of, id_in, is_header_of, notice_in, notice_of, owners_in};
+ghost use Rattle.kd_item.specs.Reading.{entry};
+ghost use Rattle.kd_image.specs.Reading.{id_in, is_header_of, notice_in, notice_of, owners_in};
 
 use crate::draft::is_text;
-use crate::first::{Item, first_item};
-use crate::header::{Header, word_at};
+use crate::header::Header;
 use crate::kind::{
     ID_ADD, ID_REMOVE, NAME_ADD, NAME_CHANGE, NAME_REMOVE, REPLY_DEAD, REPLY_TIMEOUT,
 };
 use crate::notice::Notice;
 use crate::notices::{destination, last_word};
+use kd_item::{Item, first_item, word_at};
 use kd_types::{ConnId, Cookie, ReplyError, Text};
 use std::alloc::Global;
 
@@ -44,7 +45,7 @@ fn read_owners(alloc: Global, body: &[u8]) -> Result<Option<(ConnId, ConnId, Tex
 /// The notice of an item, if it is one.
 #[tactic(auto, unfolding(crate::specs::Reading::notice_of))]
 fn read_notice(alloc: Global, last: u64, item: Item<'_>) -> Result<Option<Notice>, ReplyError>
-    ensures ok { IfOk result (λ n. n ≡ notice_of last (entry_of item.entry)) }
+    ensures ok { IfOk result (λ n. n ≡ notice_of last (entry item.entry)) }
     ensures err { IfErr result (λ e. e ≡ ReplyError.OutOfMemory) }
 {
     let body = item.body;
@@ -97,7 +98,7 @@ pub(crate) fn find_notice<'a>(
     ensures inside { IfOk result (λ o. IfSome o (λ f. length f.1.now ≤ length area.now)) }
     ensures err { IfErr result (λ e. e ≡ ReplyError.OutOfMemory) }
 {
-    let Some((item, taken)) = first_item(area) else {
+    let Some((item, taken)) = first_item(area, 64) else {
         return Ok(None);
     };
     let Some(notice) = read_notice(alloc, header.last, item)? else {

@@ -135,25 +135,10 @@ fn all_that_is_attached_stands_in_order(rt: HostRuntime) -> Result<(), Fail> {
     };
     let (front, len) = built(alloc, &called, 9, &attached)?;
     let size = 64 + 40 + 24 + 24 + 16 + 24 + 24;
+    let priority = u64::MAX - 1;
     let mut wanted = bytes_of(
         alloc,
-        &[
-            size,
-            0,
-            u64::MAX - 1,
-            9,
-            1,
-            0,
-            0,
-            0,
-            40,
-            21,
-            7,
-            8,
-            1,
-            19,
-            22,
-        ],
+        &[size, 0, priority, 9, 1, 0, 0, 0, 40, 21, 7, 8, 1, 19, 22],
         b"a.b\0\0\0\0\0",
     )?;
     wanted.extend_from_slice(&bytes_of(alloc, &[19, 22], b"a.c\0\0\0\0\0")?)?;
@@ -322,32 +307,15 @@ fn each_notice_has_one_item(rt: HostRuntime) -> Result<(), Fail> {
     Ok(())
 }
 
+/// The word of the priority -1, and the bytes `eight by`.
+const LOW: u64 = u64::MAX;
+
+const EIGHT_BY: u64 = 0x79_62_20_74_68_67_69_65;
+
 /// An image of a described message, sent at moment 5, with the payloads `one` and `eight by`, word by word.
 const DESCRIBED: &[u64] = &[
-    176,
-    0,
-    u64::MAX,
-    9,
-    1,
-    2,
-    3,
-    4,
-    19,
-    10,
-    0x63_62_61,
-    24,
-    23,
-    5,
-    32,
-    19,
-    3,
-    176,
-    32,
-    19,
-    8,
-    184,
-    0x65_6e_6f,
-    0x79_62_20_74_68_67_69_65,
+    176, 0, LOW, 9, 1, 2, 3, 4, 19, 10, 0x63_62_61, 24, 23, 5, 32, 19, 3, 176, 32, 19, 8, 184,
+    0x65_6e_6f, EIGHT_BY,
 ];
 
 #[test]
@@ -414,6 +382,40 @@ const DAMAGES: &[(usize, u64, u64)] = &[
     (16, 9, 144),
     (22, 0x01_65_6e_6f, 176),
 ];
+
+/// Two names, each with its item's size, and where an image breaks the format that has the one behind the other.
+const NAMES: &[((u64, u64), (u64, u64), Option<u64>)] = &[
+    // `a` and `a.b`, `a.b` and `a.c`, `B` and `a`
+    ((17, 0x61), (19, 0x62_2e_61), None),
+    ((19, 0x62_2e_61), (19, 0x63_2e_61), None),
+    ((17, 0x42), (17, 0x61), None),
+    // the other way round, and one name twice
+    ((19, 0x62_2e_61), (17, 0x61), Some(88)),
+    ((19, 0x63_2e_61), (19, 0x62_2e_61), Some(88)),
+    ((19, 0x62_2e_61), (19, 0x62_2e_61), Some(88)),
+];
+
+#[test]
+fn owned_names_rise_in_byte_order(rt: HostRuntime) -> Result<(), Fail> {
+    let alloc = rt.alloc();
+    for ((size, name), (next_size, next), place) in NAMES {
+        let words = [
+            112, 0, 0, 1, 1, 0, 0, 0, *size, 22, *name, *next_size, 22, *next,
+        ];
+        let image = bytes_of(alloc, &words, b"")?;
+        assert_eq!(rt; breaks_at(alloc, &image), *place);
+    }
+    let words = [
+        112, 0, 0, 1, 1, 0, 0, 0, 19, 22, 0x62_2e_61, 19, 22, 0x63_2e_61,
+    ];
+    let image = read_image(alloc, &bytes_of(alloc, &words, b"")?).map_err(|_| "not read")?;
+    let [first, second] = image.attached.names.texts() else {
+        return Err("two names")?;
+    };
+    assert_eq!(rt; first.bytes(), b"a.b".as_slice());
+    assert_eq!(rt; second.bytes(), b"a.c".as_slice());
+    Ok(())
+}
 
 /// So many bytes of it and of what is left over behind it, and where that breaks the format.
 const LENGTHS: &[(usize, u64)] = &[

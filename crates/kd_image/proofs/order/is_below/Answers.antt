@@ -1,0 +1,5 @@
+use Rattle.kd_image.proofs.Rising.{less_than}
+use Rattle.kd_image.proofs.order.is_below.Goals as goal
+
+pub returns : goal.returns
+returns c = less_than c.args.a.now c.args.b.now c.lt.result c.lt.ensures
