@@ -1,16 +1,15 @@
 -- The point on hands, for an entry on the desk that empties no hand; and what a put owes on a pool and on the desk.
-use Rattle.std.proofs.Common.{◌≡◌, ℕ, zero, suc, ◌+◌, ◌<◌, ◌≢◌, ◌⊎◌, ◌==◌, ◌&&◌, Bool, true, false, cond, List, [], ◌∷◌, ◌++◌, eqb, eq-eqb, ne_eqb, subst, sym, refl, ap, ◌∙◌, inl, inr, ⊎_elim, arith}
-use Rattle.std.specs.Prelude.{Option, Some, None}
+use Rattle.std.proofs.Common.{◌≡◌, ℕ, zero, suc, ◌⊎◌, ◌==◌, ◌&&◌, true, false, cond, List, [], eq-eqb, ne_eqb, subst, sym, refl, ap, ◌∙◌, inl, inr, ⊎_elim, arith}
+use Rattle.std.specs.Prelude.{Some, None}
 use mathlib.Core.Logic.{dite}
 use native.Mathlib.Decide.{ℕ_discrete}
 use Rattle.kd_turn.specs.declared.views.View.{View}
-use Rattle.kd_turn.specs.Lists.{part, has, is_marked, was_swept, is_word_of, is_at}
+use Rattle.kd_turn.specs.Lists.{part, has, is_marked, was_swept, is_at}
 use Rattle.kd_turn.specs.World.{World, Handed, Fact, entered, hands_after}
 use Rattle.kd_turn.specs.Told.{Fits, Owes}
-use Rattle.kd_turn.proofs.Changed.{not_both, place_here, is_at_some, is_at_not}
+use Rattle.kd_turn.proofs.Changed.{place_here, is_at_some, is_at_not}
 use Rattle.kd_turn.proofs.Settled.{Settles, settled, lists_here, lists_else, mine_here, others, swept_else}
 use Rattle.kd_toy_bus.specs.declared.act.Slip.{Slip}
-use Rattle.kd_toy_bus.specs.declared.act.Act.{Act}
 use Rattle.kd_toy_bus.specs.Bus.{act_of, keeps, kept_from, IsFair, is_seated, part_at, made_by_one, opened_at, lends, out, keeper, hand_with, hand_after, emptied_by, empties, Tie}
 use Rattle.kd_toy_bus.proofs.Laws.{kept_snoc, seated_is, at_is}
 use Rattle.kd_toy_bus.proofs.Ties.{visits, between, leaves}

@@ -1,5 +1,5 @@
 -- One entry more at the end of a list, and who has a seat.
-use Rattle.std.proofs.Common.{◌≡◌, ℕ, zero, suc, ◌+◌, ◌<◌, ◌≢◌, ◌==◌, Bool, true, false, cond, List, [], ◌∷◌, ◌++◌, filter, eqb, eqb-true, eq-eqb, ne_eqb, subst, sym, refl, ap, ◌∙◌, arith, append_assoc}
+use Rattle.std.proofs.Common.{◌≡◌, ℕ, ◌≢◌, ◌==◌, Bool, true, false, cond, List, [], ◌∷◌, ◌++◌, eqb-true, eq-eqb, ne_eqb, sym, refl, ap, ◌∙◌, append_assoc}
 use Rattle.std.specs.Prelude.{Option, Some, None}
 use Rattle.std.proofs.lemmas.List.{append-nil}
 use mathlib.Core.Logic.{dite}
@@ -9,7 +9,8 @@ use Rattle.kd_toy_bus.specs.declared.act.Slip.{Slip}
 use Rattle.kd_toy_bus.specs.declared.act.Act.{Act}
 use Rattle.kd_toy_bus.specs.declared.act.Act.TheVariants.{Join, Leave, Send, Raise, Close, Offer, Receive, Idle}
 use Rattle.kd_toy_bus.specs.declared.locked.Pool.{Pool}
-use Rattle.kd_toy_bus.specs.Bus.{act_of, pool_after, pool_from, keeps, kept_from, IsFair, AreFair, sits, seated_from, Part, part_at, parts, made_by_one, made, opened_at}
+use Rattle.kd_toy_bus.specs.declared.locked.Pool.TheVariants.{Closed, Free, Placed, Handed}
+use Rattle.kd_toy_bus.specs.Bus.{act_of, offered, received, raised, closed, offer, pool_after, pool_from, keeps, kept_from, IsFair, AreFair, sits, seated_from, Part, part_at, parts, made_by_one, made, opened_at}
 
 pub pool_snoc : (p : Pool) (xs : List (ℕ × Slip)) (x : ℕ × Slip) → pool_from p (xs ++ x ∷ []) ≡ pool_after (act_of x.1) (pool_from p xs)
 pool_snoc p [] x = refl
@@ -80,3 +81,59 @@ seated_is c j k (x ∷ xs) fair =
 pub at_is : (j : ℕ) (k : Option ℕ) → is_at j k ≡ true → k ≡ Some j
 at_is j None e = absurd cc
 at_is j (Some i) e = ap (λ (n : ℕ). Some n) (eqb-true i j e)
+
+-- a pool is open or closed as its parts say
+abbrev is_open : Pool → Bool
+is_open Closed = false
+is_open Free = true
+is_open Placed = true
+is_open Handed = true
+
+abbrev open_after : List Part → Bool → Bool
+open_after [] b = b
+open_after (raised ∷ ps) b = open_after ps true
+open_after (closed ∷ ps) b = open_after ps false
+open_after (offer ∷ ps) b = open_after ps b
+
+open_append : (ps qs : List Part) (b : Bool) → open_after (ps ++ qs) b ≡ open_after qs (open_after ps b)
+open_append [] qs b = refl
+open_append (raised ∷ ps) qs b = open_append ps qs true
+open_append (closed ∷ ps) qs b = open_append ps qs false
+open_append (offer ∷ ps) qs b = open_append ps qs b
+
+open_offered : (swept : Bool) (p : Pool) → is_open (offered swept p) ≡ is_open p
+open_offered swept Closed = refl
+open_offered swept Free = refl
+open_offered swept Placed = refl
+open_offered true Handed = refl
+open_offered false Handed = refl
+
+open_received : (p : Pool) → is_open (received p) ≡ is_open p
+open_received Closed = refl
+open_received Free = refl
+open_received Placed = refl
+open_received Handed = refl
+
+open_one : (a : Act) (p : Pool) → is_open (pool_after a p) ≡ open_after (made_by_one a) (is_open p)
+open_one (Join s) p = refl
+open_one (Leave s) p = refl
+open_one (Send s) p = refl
+open_one Raise p = refl
+open_one Close p = refl
+open_one (Offer swept) p = open_offered swept p
+open_one Receive p = open_received p
+open_one Idle p = refl
+
+open_is : (p : Pool) (xs : List (ℕ × Slip)) → is_open (pool_from p xs) ≡ open_after (made xs) (is_open p)
+open_is p [] = refl
+open_is p (x ∷ xs) = open_is (pool_after (act_of x.1) p) xs ∙ (ap (open_after (made xs)) (open_one (act_of x.1) p) ∙ sym (open_append (made_by_one (act_of x.1)) (made xs) (is_open p)))
+
+-- a pool whose last part is its closing is closed, whatever was received since
+pub shut_is : (xs : List (ℕ × Slip)) (ps : List Part) → made xs ≡ ps ++ closed ∷ [] → pool_from Closed xs ≡ Closed
+shut_is xs ps is = none (pool_from Closed xs) (open_is Closed xs ∙ (ap (λ qs. open_after qs false) is ∙ open_append ps (closed ∷ []) false))
+  where
+    none : (p : Pool) → is_open p ≡ false → p ≡ Closed
+    none Closed e = refl
+    none Free e = absurd cc
+    none Placed e = absurd cc
+    none Handed e = absurd cc

@@ -4,3 +4,7 @@ pub mod Pools
 pub mod Desks
 pub mod Puts
 pub mod Chains
+pub mod Backs
+pub mod Twins
+pub mod Leaves
+pub mod Runs

@@ -1,21 +1,20 @@
 -- The point on hands, for each entry on a pool.
-use Rattle.std.proofs.Common.{◌≡◌, ℕ, zero, suc, ◌+◌, ◌<◌, ◌≢◌, ◌⊎◌, ◌==◌, ◌||◌, Bool, true, false, cond, List, [], ◌∷◌, ◌++◌, eqb, eqb-true, eq-eqb, ne_eqb, subst, sym, refl, ap, ◌∙◌, inl, inr, ⊎_elim, arith}
-use Rattle.std.specs.Prelude.{Option, Some, None}
+use Rattle.std.proofs.Common.{◌≡◌, ℕ, suc, ◌⊎◌, ◌||◌, Bool, true, false, cond, List, [], ◌∷◌, ◌++◌, eq-eqb, ne_eqb, subst, sym, refl, ap, ◌∙◌, inl, inr, ⊎_elim}
+use Rattle.std.specs.Prelude.{Some}
 use mathlib.Core.Logic.{dite}
 use native.Mathlib.Decide.{ℕ_discrete}
 use Rattle.kd_turn.specs.declared.views.View.{View}
-use Rattle.kd_turn.specs.Lists.{part, has, is_marked, was_swept, is_word_of, is_at}
-use Rattle.kd_turn.specs.World.{World, Handed, Fact, entered, hands_after}
-use Rattle.kd_turn.specs.Told.{Fits, Owes}
-use Rattle.kd_turn.proofs.Changed.{not_both, true_or_not}
-use Rattle.kd_turn.proofs.Settled.{Settles, settled}
+use Rattle.kd_turn.specs.Lists.{part, has, is_marked, was_swept}
+use Rattle.kd_turn.specs.World.{World, Handed}
+use Rattle.kd_turn.specs.Told.{Fits}
+use Rattle.kd_turn.proofs.Changed.{not_both}
+use Rattle.kd_turn.proofs.Settled.{Settles}
 use Rattle.kd_toy_bus.specs.declared.act.Slip.{Slip}
-use Rattle.kd_toy_bus.specs.declared.act.Act.{Act}
-use Rattle.kd_toy_bus.specs.declared.act.Act.TheVariants.{Raise, Close, Offer, Receive, Idle}
+use Rattle.kd_toy_bus.specs.declared.act.Act.TheVariants.{Close, Offer, Receive}
 use Rattle.kd_toy_bus.specs.declared.locked.Pool.{Pool}
 use Rattle.kd_toy_bus.specs.declared.locked.Pool.TheVariants.{Closed, Free, Placed, Handed as IsOut}
-use Rattle.kd_toy_bus.specs.Bus.{act_of, offered, pool_after, pool_of, pool_lends, pool_out, lends, out, keeper, hand_with, hand_after, empties, kept_from, is_seated, Tie}
-use Rattle.kd_toy_bus.proofs.Laws.{pool_snoc, seated_is, at_is}
+use Rattle.kd_toy_bus.specs.Bus.{act_of, offered, received, pool_after, pool_of, pool_lends, pool_out, lends, out, keeper, hand_with, hand_after}
+use Rattle.kd_toy_bus.proofs.Laws.{pool_snoc}
 
 -- what the rule says of the pool of the seat s, whose lock the pass holds
 module _ (s : ℕ) (e : Slip) (v : View Slip) (w : World Slip) (fits : Fits v w) (held : (part v (suc s)).holds ≡ true) (h : Handed lends out keeper w) where
@@ -68,10 +67,20 @@ module _ (s : ℕ) (e : Slip) (v : View Slip) (w : World Slip) (fits : Fits v w)
   pub comes_free : ((hand : List ℕ) → hand_with (act_of e) hand ≡ hand) → ((n : ℕ) → pool_out p' n → ⊥) → ((i n : ℕ) → has n (w.hands i (suc s)) ≡ true → ⊥) → ((n : ℕ) → is_marked n (w.marks (suc s)) ≡ true → ⊥) → Settles lends out keeper hand_after (suc s) e v w
   comes_free same none_out no_hand no_mark = same_hand same (λ i n q. absurd (no_hand i n q)) (λ n m. absurd (no_mark n m)) (λ n o. absurd (none_out n o)) (λ i n o _. absurd (none_out n o))
 
+  -- the pool is closed: it lends every number, and has none out
+  pub closes : act_of e ≡ Close → Settles lends out keeper hand_after (suc s) e v w
+  closes is =
+      let now : p' ≡ Closed = next_is ∙ ap (λ a. pool_after a p) is in
+      same_hand (λ hand. ap (λ a. hand_with a hand) is)
+      (λ i n q. subst (λ x. pool_lends x n) (sym now) tt)
+      (λ n m. subst (λ x. pool_lends x n) (sym now) tt)
+      (λ n o. absurd (subst (λ x. pool_out x n) now o))
+      (λ i n o m. absurd (subst (λ x. pool_out x n) now o))
+
   -- a receive takes the slice into the hand
   pub receives : act_of e ≡ Receive → p ≡ Placed → keeper (suc s) (w.told.lists 0) ≡ Some v.name → Settles lends out keeper hand_after (suc s) e v w
   receives is was mine =
-      let now : p' ≡ IsOut = next_is ∙ ap (λ a. pool_after a p) is in
+      let now : p' ≡ IsOut = next_is ∙ (ap (λ a. pool_after a p) is ∙ ap received was) in
       let hand_is : hand_with (act_of e) (w.hands v.name (suc s)) ≡ 200 ∷ w.hands v.name (suc s) = ap (λ a. hand_with a (w.hands v.name (suc s))) is in
       let no_hand : (i n : ℕ) → has n (w.hands i (suc s)) ≡ true → ⊥ = λ i n q. subst (λ x. pool_lends x n) was (h.lent i (suc s) n q) in
       let no_mark : (n : ℕ) → is_marked n (w.marks (suc s)) ≡ true → ⊥ = λ n m. subst (λ x. pool_lends x n) was (h.lent_mark (suc s) n m) in

@@ -1,28 +1,24 @@
 -- What each put of the calls owes: on the lock l of the seat s, and on the desk.
-use Rattle.std.proofs.Common.{◌≡◌, ℕ, zero, suc, ◌+◌, ◌/◌, ◌<◌, ◌≤◌, ◌≢◌, ◌⊎◌, ◌==◌, ◌&&◌, Bool, true, false, cond, List, [], ◌∷◌, ◌++◌, get_or, set, length, eqb, eqb-true, eq-eqb, ne_eqb, subst, sym, refl, ap, ◌∙◌, arith, length-set, get_or-set_other, get_or-set_same}
+use Rattle.std.proofs.Common.{◌≡◌, ℕ, suc, ◌/◌, ◌<◌, ◌==◌, ◌&&◌, Bool, true, false, cond, List, [], ◌∷◌, ◌++◌, get_or, set, length, eqb-true, eq-eqb, ne_eqb, subst, sym, refl, ap, ◌∙◌, arith, length-set, get_or-set_other, get_or-set_same}
 use Rattle.std.specs.Prelude.{Option, Some, None, is_some, nat_lt}
 use Rattle.std.proofs.lemmas.Bool.{ltb-true}
 use Rattle.std.proofs.lemmas.List.{append-nil}
 use mathlib.Core.Logic.{dite}
 use native.Mathlib.Decide.{ℕ_discrete}
 use Rattle.kd_turn.specs.declared.views.View.{View}
-use Rattle.kd_turn.specs.Lists.{part, has, is_marked, has_bit, was_swept, is_word_of}
-use Rattle.kd_turn.specs.World.{World, Handed, opened_after}
+use Rattle.kd_turn.specs.Lists.{part, is_marked, has_bit, was_swept, is_word_of}
+use Rattle.kd_turn.specs.World.{World}
 use Rattle.kd_turn.specs.Told.{Fits}
 use Rattle.kd_turn.proofs.Changed.{not_both}
-use Rattle.kd_turn.proofs.Passes.{opened_on}
-use Rattle.kd_turn.proofs.Settled.{Settles}
 use Rattle.kd_toy_bus.specs.declared.act.Slip.{Slip}
-use Rattle.kd_toy_bus.specs.declared.act.Act.{Act}
 use Rattle.kd_toy_bus.specs.declared.act.Act.TheVariants.{Join, Leave, Send, Raise, Close, Offer, Receive, Idle}
 use Rattle.kd_toy_bus.specs.declared.locked.Desk.{Desk}
-use Rattle.kd_toy_bus.specs.declared.locked.Locked.{Locked}
 use Rattle.kd_toy_bus.specs.declared.locked.Locked.TheVariants as locked
 use Rattle.kd_toy_bus.specs.declared.locked.Pool.{Pool}
-use Rattle.kd_toy_bus.specs.declared.locked.Pool.TheVariants.{Closed, Free, Placed, Handed as IsOut}
-use Rattle.kd_toy_bus.specs.Bus.{act_of, offered, pool_after, pool_of, pool_out, lends, out, keeper, hand_with, hand_after, emptied_by, keeps, kept_from, IsFair, is_seated, Part, part_at, made_by_one, opened_at, stands, KnowsSeats, Tie}
+use Rattle.kd_toy_bus.specs.declared.locked.Pool.TheVariants.{Closed, Free, Placed}
+use Rattle.kd_toy_bus.specs.Bus.{act_of, pool_after, pool_of, pool_out, keeper, hand_with, emptied_by, keeps, kept_from, IsFair, is_seated, Part, part_at, made_by_one, opened_at, stands, KnowsSeats}
 use Rattle.kd_toy_bus.proofs.Laws.{pool_snoc, kept_snoc, cond_same}
-use Rattle.kd_toy_bus.proofs.Pools.{next_is, stays, comes_free, receives, offers, none_swept}
+use Rattle.kd_toy_bus.proofs.Pools.{next_is, stays, comes_free, closes, receives, offers, none_swept}
 use Rattle.kd_toy_bus.proofs.Desks.{OwesPut, keeper_mine, owes_visit, owes_alone, owes_leave}
 
 -- values, and the lists that they stand for
@@ -55,6 +51,27 @@ knows_join list d j s e k is lt' =
     (λ ne. get_or-set_other d.taken s c true false ne ∙ (k.1 c lt ∙ sym (ap is_some (now ∙ ap (λ b. cond b (Some j) (kept_from c None list)) (ne_eqb s c (λ y. ne (sym y))))))) in
     (record { taken = set d.taken s true }, refl, (length-set d.taken s true ∙ k.0, seats))
 
+pub knows_leave : (list : List (ℕ × Slip)) (d : Desk) (j s : ℕ) (e : Slip) → KnowsSeats list d → act_of e ≡ Leave s → s < 3 → stands 0 (list ++ (j, e) ∷ []) (locked.Desk (record { taken = set d.taken s false }))
+knows_leave list d j s e k is lt' =
+    let long = k.0 in
+    let near : s < length d.taken = omega arith in
+    let seats : (c : ℕ) → c < 3 → get_or (set d.taken s false) c false ≡ is_some (kept_from c None (list ++ (j, e) ∷ [])) = λ c lt.
+    let now : kept_from c None (list ++ (j, e) ∷ []) ≡ cond (s == c) None (kept_from c None list) = kept_snoc c None list (j, e) ∙ ap (λ a. keeps c j a (kept_from c None list)) is in
+    dite (ℕ_discrete c s)
+    (λ z. ap (λ (i : ℕ). get_or (set d.taken s false) i false) z ∙ (get_or-set_same d.taken s false false near ∙ sym (ap is_some (now ∙ ap (λ b. cond b None (kept_from c None list)) (eq-eqb s c (sym z))))))
+    (λ ne. get_or-set_other d.taken s c false false ne ∙ (k.1 c lt ∙ sym (ap is_some (now ∙ ap (λ b. cond b None (kept_from c None list)) (ne_eqb s c (λ y. ne (sym y))))))) in
+    (record { taken = set d.taken s false }, refl, (length-set d.taken s false ∙ k.0, seats))
+
+-- what the desk knew of a seat is so when it was put
+pub kept_still : (list : List (ℕ × Slip)) (d : Desk) (s : ℕ) (x : ℕ × Slip) (now : List (ℕ × Slip)) → KnowsSeats list d → s < 3 → keeps s x.0 (act_of x.1) (kept_from s None list) ≡ kept_from s None list → now ≡ list ++ x ∷ [] → get_or d.taken s false ≡ is_some (kept_from s None now)
+kept_still list d s x now k lt same eq = k.1 s lt ∙ ap is_some (sym (ap (kept_from s None) eq ∙ (kept_snoc s None list x ∙ same)))
+
+pub kept_joined : (list : List (ℕ × Slip)) (j s : ℕ) (e : Slip) (now : List (ℕ × Slip)) → act_of e ≡ Join s → now ≡ list ++ (j, e) ∷ [] → is_some (kept_from s None now) ≡ true
+kept_joined list j s e now is eq = ap is_some (ap (kept_from s None) eq ∙ (kept_snoc s None list (j, e) ∙ (ap (λ a. keeps s j a (kept_from s None list)) is ∙ ap (λ b. cond b (Some j) (kept_from s None list)) (eq-eqb s s refl))))
+
+pub pool_still : (list : List (ℕ × Slip)) (x : ℕ × Slip) (now : List (ℕ × Slip)) → pool_after (act_of x.1) (pool_of list) ≡ pool_of list → now ≡ list ++ x ∷ [] → pool_of now ≡ pool_of list
+pool_still list x now same eq = ap pool_of eq ∙ (pool_snoc Closed list x ∙ same)
+
 -- a seat that the desk doesn't know as taken has no keeper
 pub nobody_at : (list : List (ℕ × Slip)) (d : Desk) (s : ℕ) → KnowsSeats list d → s < 3 → get_or d.taken s false ≡ false → kept_from s None list ≡ None
 nobody_at list d s k lt free = none (kept_from s None list) (sym (k.1 s lt) ∙ free)
@@ -79,6 +96,9 @@ module _ (s l : ℕ) (eq : suc s ≡ l) (e : Slip) (v : View Slip) (held : (part
 
   pub offer_owes : (swept : Bool) → (part v 0).holds ≡ true → act_of e ≡ Offer swept → was_swept 200 (part v l).swept ≡ swept → OwesPut v l e
   offer_owes swept desk is told = subst (λ k. OwesPut v k e) eq (owes_visit s e v desk holds (λ w fits h. offers s e swept v w fits holds h is (ap (λ k. was_swept 200 (part v k).swept) eq ∙ told)))
+
+  pub close_owes : (part v 0).holds ≡ true → act_of e ≡ Close → OwesPut v l e
+  close_owes desk is = subst (λ k. OwesPut v k e) eq (owes_visit s e v desk holds (λ w fits h. closes s e v w fits holds h is))
 
   -- the pool of a free seat is opened after a sweep
   pub raise_owes : (part v 0).holds ≡ true → act_of e ≡ Raise → kept_from s None (part v 0).seen ≡ None → ((n : ℕ) → n < 256 → is_word_of n (part v l).swept ≡ true) → OwesPut v l e

@@ -1,15 +1,15 @@
 -- The tie, after an entry on a pool and after one on the desk.
-use Rattle.std.proofs.Common.{◌≡◌, ℕ, zero, suc, ◌+◌, ◌<◌, ◌≢◌, ◌==◌, Bool, true, false, cond, List, [], ◌∷◌, ◌++◌, eqb, eq-eqb, ne_eqb, subst, sym, refl, ap, ◌∙◌, arith, append_assoc}
-use Rattle.std.specs.Prelude.{Option, Some, None}
+use Rattle.std.proofs.Common.{◌≡◌, ℕ, suc, ◌==◌, true, false, cond, List, [], ◌∷◌, ◌++◌, eq-eqb, ne_eqb, subst, sym, refl, ap, ◌∙◌, arith, append_assoc}
+use Rattle.std.specs.Prelude.{None}
 use Rattle.std.proofs.lemmas.List.{append-nil}
 use mathlib.Core.Logic.{dite}
 use native.Mathlib.Decide.{ℕ_discrete}
 use Rattle.kd_turn.specs.Lists.{is_at, at_place}
-use Rattle.kd_turn.specs.World.{World, entered, hands_after, opened_after}
+use Rattle.kd_turn.specs.World.{World, entered, opened_after}
 use Rattle.kd_turn.proofs.Changed.{place_here, place_else}
-use Rattle.kd_turn.proofs.Passes.{opened_zero, opened_on, opened_off}
+use Rattle.kd_turn.proofs.Passes.{opened_on, opened_off}
 use Rattle.kd_toy_bus.specs.declared.act.Slip.{Slip}
-use Rattle.kd_toy_bus.specs.Bus.{act_of, IsFair, AreFair, kept_from, Part, part_at, parts, made_by_one, made, opened_at, Tie}
+use Rattle.kd_toy_bus.specs.Bus.{act_of, IsFair, AreFair, kept_from, part_at, parts, made_by_one, made, opened_at, Tie}
 use Rattle.kd_toy_bus.proofs.Laws.{made_snoc, parts_snoc, opened_snoc, fair_snoc}
 
 module _ (after : ℕ → Slip → (ℕ → List ℕ) → ℕ → List ℕ) (j : ℕ) (e : Slip) (w : World Slip) (tie : Tie w.told) where

@@ -1,5 +1,6 @@
 -- What the values stand for, and the tie between the desk's list and the pools' lists.
-use Rattle.std.specs.Prelude.{◌≡◌, ℕ, zero, suc, ◌+◌, ◌<◌, ◌==◌, Bool, true, false, cond, List, [], ◌∷◌, ◌++◌, length, slice_index_or, Option, Some, None, is_some}
+use Rattle.std.specs.Prelude.{◌≡◌, ℕ, zero, suc, ◌<◌, ◌==◌, Bool, true, false, cond, List, [], ◌∷◌, ◌++◌, length, slice_index_or, Option, Some, None, is_some}
+use Rattle.kd_turn.specs.declared.views.View.{View}
 use Rattle.kd_turn.specs.Lists.{part}
 use Rattle.kd_turn.specs.Sight.{GateSight, Sight}
 use Rattle.kd_turn.specs.World.{Histories}
@@ -22,12 +23,19 @@ offered swept Free = Placed
 offered swept Placed = Placed
 offered swept Handed = cond swept Placed Handed
 
+-- the pool after a receive, which takes a slice that was offered
+abbrev pub received : Pool → Pool
+received Closed = Closed
+received Free = Free
+received Placed = Handed
+received Handed = Handed
+
 -- the pool after one act
 abbrev pub pool_after : Act → Pool → Pool
 pool_after Raise p = Free
 pool_after Close p = Closed
 pool_after (Offer swept) p = offered swept p
-pool_after Receive p = Handed
+pool_after Receive p = received p
 pool_after (Join s) p = p
 pool_after (Leave s) p = p
 pool_after (Send s) p = p
@@ -205,3 +213,9 @@ pub record IsIdle (gate : GateSight) (p : Sight Slip) : Type 0 where
   pub four : gate.locks ≡ 4
   pub held : p.held ≡ []
   pub holds : (k : ℕ) → (part p.view k).holds ≡ false
+
+-- the pass made one entry on the lock l, which says this
+pub record Adds (l : ℕ) (a : Act) (v v' : View Slip) : Type 0 where
+  pub entry : Slip
+  pub says : act_of entry ≡ a
+  pub own : (part v' l).own ≡ (part v l).own ++ (v.name, entry) ∷ []

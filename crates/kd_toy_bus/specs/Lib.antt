@@ -1,1 +1,4 @@
 pub mod Bus
+pub mod Rests
+pub mod Counts
+pub mod Run

@@ -1,12 +1,14 @@
 //! The calls of the bus.
-ghost use Rattle.std.specs.Prelude.{◌≡◌, ℕ, ◌+◌, ◌^◌, ◌<◌, ◌≤◌, true, false, [], ◌∷◌, IsTrue, IsFalse, slice_index};
+ghost use Rattle.std.specs.Prelude.{◌≡◌, ◌≢◌, ℕ, ◌+◌, ◌^◌, ◌<◌, ◌≤◌, true, false, [], ◌∷◌, IsTrue, IsFalse, IfOk, Bool, None, is_some, length, slice_index};
 ghost use Rattle.kd_turn.specs.Lists.{part, hand, has, has_bit};
-ghost use Rattle.kd_toy_bus.specs.Bus.{IsIdle, is_seated, offered as pool_offered};
+ghost use Rattle.kd_toy_bus.specs.Bus.{Adds, IsIdle, is_seated, kept_from, pool_of, offered as pool_offered};
+ghost use Rattle.kd_toy_bus.specs.Rests.{AreNew};
 
 use crate::act::{Act, Slip};
-use crate::locked::{Locked, Pool, SLICE};
+use crate::locked::{Desk, Locked, Pool, SLICE};
 use kd_turn::gate::Gate;
 use kd_turn::pass::Pass;
+use std::alloc::{AllocError, Global};
 use std::sync::Wait;
 
 /// Whether the marks have the slice: number 200 is bit 8 of word 3.
@@ -30,12 +32,30 @@ fn offered(pool: Pool, swept: bool) -> Pool
 
 /// Whether a slice was offered, and not yet received.
 fn is_placed(pool: Pool) -> bool
-    ensures { IsTrue result → pool ≡ Pool.Placed }
+    ensures placed { IsTrue result → pool ≡ Pool.Placed }
+    ensures other { IsFalse result → pool ≢ Pool.Placed }
 {
     match pool {
         Pool::Placed => true,
         Pool::Closed | Pool::Free | Pool::Handed => false,
     }
+}
+
+/// A bus where nobody has a seat, and its passes.
+pub fn open(alloc: Global, passes: u32) -> Result<(Gate<Locked>, Vec<Pass<Locked>>), AllocError>
+    requires passes { (0 < passes) × (passes ≤ 1024) }
+    ensures locks { IfOk result (λ r. r.0.locks ≡ 4) }
+    ensures passes { IfOk result (λ r. r.0.passes ≡ passes) }
+    ensures new { IfOk result (λ r. AreNew r.0 r.1.items) }
+{
+    let mut values = Vec::with_capacity(alloc, 4)?;
+    let desk = Desk { taken: [false; 3] };
+    values.push_reserved(Locked::Desk(desk));
+    values.push_reserved(Locked::Pool(Pool::Closed));
+    values.push_reserved(Locked::Pool(Pool::Closed));
+    values.push_reserved(Locked::Pool(Pool::Closed));
+    let made = Gate::make(alloc, values, passes)?;
+    Ok(made)
 }
 
 /// Takes the seat, if nobody has it.
@@ -46,6 +66,12 @@ pub fn join<R: Wait>(rt: &R, gate: &Gate<Locked>, pass: &mut Pass<Locked>, seat:
     ensures idle { IsIdle gate.now pass.new }
     ensures seated { IsTrue result → is_seated seat (part pass.new.view 0).own ≡ true }
     ensures turns { pass.new.view.turns ≤ pass.old.view.turns + 2 }
+    ensures entered { length (part pass.new.view 0).own ≡ length (part pass.old.view 0).own + 1 }
+    ensures opened { IsTrue result → length (part pass.new.view (seat + 1)).own ≡ length (part pass.old.view (seat + 1)).own + 1 }
+    ensures name { pass.new.view.name ≡ pass.old.view.name }
+    ensures joined { IsTrue result → Adds 0 (Act.Join seat) pass.old.view pass.new.view }
+    ensures raised { IsTrue result → Adds (seat + 1) Act.Raise pass.old.view pass.new.view }
+    ensures taken { is_some (kept_from seat None (part pass.new.view 0).seen) ≡ true }
 {
     let Locked::Desk(mut desk) = pass.take(rt, gate, 0) else {
         unreachable!()
@@ -77,6 +103,11 @@ pub fn send<R: Wait>(rt: &R, gate: &Gate<Locked>, pass: &mut Pass<Locked>, seat:
     ensures idle { IsIdle gate.now pass.new }
     ensures seats { (c : ℕ) → is_seated c (part pass.new.view 0).own ≡ is_seated c (part pass.old.view 0).own }
     ensures turns { pass.new.view.turns ≤ pass.old.view.turns + 2 }
+    ensures entered { length (part pass.new.view 0).own ≡ length (part pass.old.view 0).own + 1 }
+    ensures name { pass.new.view.name ≡ pass.old.view.name }
+    ensures told { result ≡ is_some (kept_from seat None (part pass.new.view 0).seen) }
+    ensures sent { IsTrue result → Adds 0 (Act.Send seat) pass.old.view pass.new.view }
+    ensures offered { IsTrue result → (swept : Bool) × Adds (seat + 1) (Act.Offer swept) pass.old.view pass.new.view }
 {
     let Locked::Desk(desk) = pass.take(rt, gate, 0) else {
         unreachable!()
@@ -111,6 +142,10 @@ pub fn receive<R: Wait>(rt: &R, gate: &Gate<Locked>, pass: &mut Pass<Locked>, se
     ensures none { IsFalse result → hand pass.new.view (seat + 1) ≡ hand pass.old.view (seat + 1) }
     ensures desk { part pass.new.view 0 ≡ part pass.old.view 0 }
     ensures turns { pass.new.view.turns ≡ pass.old.view.turns + 1 }
+    ensures entered { length (part pass.new.view (seat + 1)).own ≡ length (part pass.old.view (seat + 1)).own + 1 }
+    ensures name { pass.new.view.name ≡ pass.old.view.name }
+    ensures took { IsTrue result → Adds (seat + 1) Act.Receive pass.old.view pass.new.view }
+    ensures nothing { IsFalse result → pool_of (part pass.new.view (seat + 1)).seen ≢ Pool.Placed }
 {
     let Locked::Pool(pool) = pass.take(rt, gate, seat + 1) else {
         unreachable!()
@@ -138,6 +173,41 @@ pub fn release(gate: &Gate<Locked>, pass: &mut Pass<Locked>, seat: u32)
     ensures gone { has 200 (hand pass.new.view (seat + 1)) ≡ false }
     ensures steps { pass.new.view.steps ≡ pass.old.view.steps + 1 }
     ensures turns { pass.new.view.turns ≡ pass.old.view.turns }
+    ensures parts { pass.new.view.parts ≡ pass.old.view.parts }
+    ensures name { pass.new.view.name ≡ pass.old.view.name }
 {
     pass.mark(gate, seat + 1, SLICE);
+}
+
+/// Gives the seat back, which the pass has, and with it what is in its hand.
+pub fn leave<R: Wait>(rt: &R, gate: &Gate<Locked>, pass: &mut Pass<Locked>, seat: u32)
+    requires idle { IsIdle gate.now pass.old }
+    requires seat { seat < 3 }
+    requires seated { is_seated seat (part pass.old.view 0).own ≡ true }
+    requires turns { pass.old.view.turns + 2 ≤ 2 ^ 43 }
+    ensures idle { IsIdle gate.now pass.new }
+    ensures left { is_seated seat (part pass.new.view 0).own ≡ false }
+    ensures others { (c : ℕ) → c ≢ seat → is_seated c (part pass.new.view 0).own ≡ is_seated c (part pass.old.view 0).own }
+    ensures emptied { hand pass.new.view (seat + 1) ≡ [] }
+    ensures turns { pass.new.view.turns ≡ pass.old.view.turns + 2 }
+    ensures name { pass.new.view.name ≡ pass.old.view.name }
+    ensures entered { length (part pass.new.view 0).own ≡ length (part pass.old.view 0).own + 1 }
+    ensures closed { length (part pass.new.view (seat + 1)).own ≡ length (part pass.old.view (seat + 1)).own + 1 }
+    ensures gave { Adds 0 (Act.Leave seat) pass.old.view pass.new.view }
+    ensures shut { Adds (seat + 1) Act.Close pass.old.view pass.new.view }
+{
+    let Locked::Desk(mut desk) = pass.take(rt, gate, 0) else {
+        unreachable!()
+    };
+    let Locked::Pool(_) = pass.take(rt, gate, seat + 1) else {
+        unreachable!()
+    };
+    pass.put(
+        gate,
+        seat + 1,
+        Locked::Pool(Pool::Closed),
+        Slip::of(Act::Close),
+    );
+    desk.taken[seat as usize] = false;
+    pass.put(gate, 0, Locked::Desk(desk), Slip::of(Act::Leave(seat)));
 }

@@ -7,9 +7,20 @@
 //! ```
 //!
 //! A pass that has a seat keeps the slice that it received in its hand, and gives it back by a mark, without taking the pool's lock.
-//! The definitions have the acts Leave and Close, which give a seat back and close its pool; no call makes them yet.
+//! The next offer sweeps the mark. Leaving the seat closes its pool and empties the hand.
+//!
+//! - `bus`: the calls, from `open` to `leave`; `act` and `locked`: the entries and the values
+//! - `run`: two threads on one bus, and what closing tells of all their entries
+//! - `count` and `twice`: smaller values, one with marks, one of two locks that are tied
+//! - `passes`: the passes of a gate, as they were made and as they come back
 #![tactic(auto)]
 
 pub mod act;
 pub mod bus;
+pub mod count;
 pub mod locked;
+pub mod passes;
+pub mod run;
+#[cfg(test)]
+mod tests;
+pub mod twice;

@@ -1,13 +1,12 @@
 use Rattle.std.specs.Prelude.{None}
-use Rattle.std.proofs.Common.{◌≡◌, ℕ, suc, ◌+◌, ◌<◌, ◌≢◌, Bool, true, false, cond, set, get_or, eq-eqb, List, [], ◌∷◌, ◌++◌, refl, sym, ap, subst, ◌∙◌, arith, slice_index}
-use Rattle.kd_turn.specs.declared.views.View.{View}
-use Rattle.kd_turn.specs.Lists.{part, has_bit}
+use Rattle.std.proofs.Common.{◌≡◌, ℕ, suc, ◌+◌, ◌≢◌, true, false, cond, set, get_or, eq-eqb, [], ◌∷◌, ◌++◌, refl, sym, ap, subst, ◌∙◌, arith, slice_index}
+use Rattle.kd_turn.specs.Lists.{part}
 use Rattle.kd_turn.specs.World.{Fact, hands_after}
-use Rattle.kd_toy_bus.specs.declared.act.Slip.{Slip}
+use Rattle.kd_toy_bus.specs.declared.act.Act.TheVariants.{Join, Raise}
 use Rattle.kd_toy_bus.specs.declared.locked.Locked.TheVariants as locked
-use Rattle.kd_toy_bus.specs.Bus.{Tie, raised, stands, lends, out, keeper, hand_after, empties, keeps, kept_from, pool_after, pool_of, offered, is_seated, sits, made_by_one}
-use Rattle.kd_toy_bus.proofs.Chains.{none_held, each_word, desk_held, desk_put, pool_held, opened_is, idle_again, own_is, seated_after}
-use Rattle.kd_toy_bus.proofs.Puts.{stands_as, knows, knows_still, knows_join, nobody_at, idle_leaves, raise_owes, join_leaves, one_part}
+use Rattle.kd_toy_bus.specs.Bus.{Tie, raised, stands, lends, out, keeper, hand_after, empties, keeps, kept_from, pool_after, pool_of, is_seated, sits, made_by_one}
+use Rattle.kd_toy_bus.proofs.Chains.{desk_adds, pool_adds, seen_is, none_held, each_word, desk_put, opened_is, idle_again, own_is, seated_after}
+use Rattle.kd_toy_bus.proofs.Puts.{stands_as, knows, knows_still, knows_join, kept_still, kept_joined, nobody_at, idle_leaves, raise_owes, join_leaves, one_part}
 use Rattle.kd_toy_bus.proofs.bus.join.Goals as goal
 
 pub put-requires-clause-stands : goal.put-requires-clause-stands
@@ -87,3 +86,30 @@ returns-clause-seated g c = λ _.
     let far : l ≢ 0 = λ z. omega arith in
     let own = own_is stands (Fact Tie lends out keeper) (hands_after hand_after empties) l far (locked.Desk c.in-Desk.desk) (locked.Pool c.in-Pool.field-0) c.of-2.result c.of-3.result c.sweep.result c.args.pass.now.view c.take.new.self.view c.take-2.new.self.view c.sweep.new.self.view c.put-2.new.self.view c.put-3.new.self.view c.in-Desk.ensures.took c.in-Pool.ensures.took c.sweep.ensures.swept c.put-2.ensures.passed c.requires.idle.holds c.put-3.ensures.passed in
     seated_after c.args.seat (part c.args.pass.now.view 0).own (part c.put-3.new.self.view 0).own (c.put-2.new.self.view.name, c.of-3.result) own ∙ (ap (λ a. sits c.args.seat a (is_seated c.args.seat (part c.args.pass.now.view 0).own)) c.of-3.ensures ∙ ap (λ b. cond b true (is_seated c.args.seat (part c.args.pass.now.view 0).own)) (eq-eqb c.args.seat c.args.seat refl))
+
+pub returns-clause-joined : goal.returns-clause-joined
+returns-clause-joined g c = λ _.
+    let l : ℕ = c.args.seat + 1 in
+    let far : l ≢ 0 = λ z. omega arith in
+    desk_adds stands (Fact Tie lends out keeper) (hands_after hand_after empties) l far (locked.Desk c.in-Desk.desk) (locked.Pool c.in-Pool.field-0) c.of-2.result c.of-3.result c.sweep.result c.args.pass.now.view c.take.new.self.view c.take-2.new.self.view c.sweep.new.self.view c.put-2.new.self.view c.put-3.new.self.view c.in-Desk.ensures.took c.in-Pool.ensures.took c.sweep.ensures.swept c.put-2.ensures.passed c.requires.idle.holds c.put-3.ensures.passed (Join c.args.seat) c.of-3.ensures
+
+pub returns-clause-raised : goal.returns-clause-raised
+returns-clause-raised g c = λ _.
+    let l : ℕ = c.args.seat + 1 in
+    let far : l ≢ 0 = λ z. omega arith in
+    pool_adds stands (Fact Tie lends out keeper) (hands_after hand_after empties) l far (locked.Desk c.in-Desk.desk) (locked.Pool c.in-Pool.field-0) c.of-2.result c.of-3.result c.sweep.result c.args.pass.now.view c.take.new.self.view c.take-2.new.self.view c.sweep.new.self.view c.put-2.new.self.view c.put-3.new.self.view c.in-Desk.ensures.took c.in-Pool.ensures.took c.sweep.ensures.swept c.put-2.ensures.passed c.requires.idle.holds c.put-3.ensures.passed Raise c.of-2.ensures
+
+pub returns-clause-taken : goal.returns-clause-taken
+returns-clause-taken g c =
+    let l : ℕ = c.args.seat + 1 in
+    let far : l ≢ 0 = λ z. omega arith in
+    kept_joined (part c.take.new.self.view 0).seen c.put-2.new.self.view.name c.args.seat c.of-3.result (part c.put-3.new.self.view 0).seen c.of-3.ensures
+    (seen_is stands (Fact Tie lends out keeper) (hands_after hand_after empties) l far (locked.Desk c.in-Desk.desk) (locked.Pool c.in-Pool.field-0) c.of-2.result c.of-3.result c.sweep.result c.args.pass.now.view c.take.new.self.view c.take-2.new.self.view c.sweep.new.self.view c.put-2.new.self.view c.put-3.new.self.view c.in-Desk.ensures.took c.in-Pool.ensures.took c.sweep.ensures.swept c.put-2.ensures.passed c.requires.idle.holds c.put-3.ensures.passed)
+
+pub returns-then-desk-seat-clause-taken : goal.returns-then-desk-seat-clause-taken
+returns-then-desk-seat-clause-taken g c =
+    let list = (part c.take.new.self.view 0).seen in
+    let name = c.take.new.self.view.name in
+    let still = kept_still list c.in-Desk.desk c.args.seat (name, c.of.result) (part c.put.new.self.view 0).seen (knows list c.in-Desk.desk c.in-Desk.ensures.took.value) c.requires.seat
+    (ap (λ a. keeps c.args.seat name a (kept_from c.args.seat None list)) c.of.ensures) (ap (λ p. p.seen) c.put.ensures.passed.here) in
+    sym still ∙ c.if-desk-seat.true

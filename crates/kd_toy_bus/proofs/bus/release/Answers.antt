@@ -1,4 +1,4 @@
-use Rattle.std.proofs.Common.{◌≡◌, ℕ, ◌+◌, ap, ◌∙◌}
+use Rattle.std.proofs.Common.{◌+◌, ap, ◌∙◌}
 use Rattle.kd_turn.specs.Lists.{has, hand}
 use Rattle.kd_turn.proofs.Hands.{gone_from}
 use Rattle.kd_toy_bus.proofs.bus.release.Goals as goal

@@ -1,13 +1,12 @@
 use Rattle.std.specs.Prelude.{None}
-use Rattle.std.proofs.Common.{◌≡◌, ℕ, suc, ◌+◌, ◌<◌, ◌≢◌, Bool, List, [], ◌∷◌, ◌++◌, refl, sym, ap, subst, ◌∙◌, arith, slice_index}
-use Rattle.kd_turn.specs.declared.views.View.{View}
-use Rattle.kd_turn.specs.Lists.{part, has_bit}
+use Rattle.std.proofs.Common.{◌≡◌, ℕ, suc, ◌+◌, ◌≢◌, [], ◌∷◌, ◌++◌, sym, ap, subst, ◌∙◌, arith, slice_index}
+use Rattle.kd_turn.specs.Lists.{part}
 use Rattle.kd_turn.specs.World.{Fact, hands_after}
-use Rattle.kd_toy_bus.specs.declared.act.Slip.{Slip}
+use Rattle.kd_toy_bus.specs.declared.act.Act.TheVariants.{Send, Offer}
 use Rattle.kd_toy_bus.specs.declared.locked.Locked.TheVariants as locked
 use Rattle.kd_toy_bus.specs.Bus.{Tie, offer, stands, lends, out, keeper, hand_after, empties, keeps, kept_from, pool_after, pool_of, offered, is_seated, sits, made_by_one}
-use Rattle.kd_toy_bus.proofs.Chains.{none_held, last_word, desk_held, desk_put, pool_held, opened_is, idle_again, own_is, seated_after}
-use Rattle.kd_toy_bus.proofs.Puts.{pool_is, stands_as, knows, knows_still, idle_leaves, offer_owes, send_leaves, one_part}
+use Rattle.kd_toy_bus.proofs.Chains.{desk_adds, pool_adds, seen_is, none_held, last_word, desk_put, opened_is, idle_again, own_is, seated_after}
+use Rattle.kd_toy_bus.proofs.Puts.{pool_is, stands_as, knows, knows_still, kept_still, idle_leaves, offer_owes, send_leaves, one_part}
 use Rattle.kd_toy_bus.proofs.bus.send.Goals as goal
 
 pub put-requires-clause-stands : goal.put-requires-clause-stands
@@ -90,3 +89,32 @@ returns-clause-seats g c = λ i.
     let far : l ≢ 0 = λ z. omega arith in
     let own = own_is stands (Fact Tie lends out keeper) (hands_after hand_after empties) l far (locked.Desk c.in-Desk.desk) (locked.Pool c.in-Pool.pool) c.of-2.result c.of-3.result c.sweep-marks.result c.args.pass.now.view c.take.new.self.view c.take-2.new.self.view c.sweep-marks.new.self.view c.put-2.new.self.view c.put-3.new.self.view c.in-Desk.ensures.took c.in-Pool.ensures.took c.sweep-marks.ensures.swept c.put-2.ensures.passed c.requires.idle.holds c.put-3.ensures.passed in
     seated_after i (part c.args.pass.now.view 0).own (part c.put-3.new.self.view 0).own (c.put-2.new.self.view.name, c.of-3.result) own ∙ ap (λ a. sits i a (is_seated i (part c.args.pass.now.view 0).own)) c.of-3.ensures
+
+pub returns-clause-sent : goal.returns-clause-sent
+returns-clause-sent g c = λ _.
+    let l : ℕ = c.args.seat + 1 in
+    let far : l ≢ 0 = λ z. omega arith in
+    desk_adds stands (Fact Tie lends out keeper) (hands_after hand_after empties) l far (locked.Desk c.in-Desk.desk) (locked.Pool c.in-Pool.pool) c.of-2.result c.of-3.result c.sweep-marks.result c.args.pass.now.view c.take.new.self.view c.take-2.new.self.view c.sweep-marks.new.self.view c.put-2.new.self.view c.put-3.new.self.view c.in-Desk.ensures.took c.in-Pool.ensures.took c.sweep-marks.ensures.swept c.put-2.ensures.passed c.requires.idle.holds c.put-3.ensures.passed (Send c.args.seat) c.of-3.ensures
+
+pub returns-clause-offered : goal.returns-clause-offered
+returns-clause-offered g c = λ _.
+    let l : ℕ = c.args.seat + 1 in
+    let far : l ≢ 0 = λ z. omega arith in
+    (c.has_slice-swept.result, pool_adds stands (Fact Tie lends out keeper) (hands_after hand_after empties) l far (locked.Desk c.in-Desk.desk) (locked.Pool c.in-Pool.pool) c.of-2.result c.of-3.result c.sweep-marks.result c.args.pass.now.view c.take.new.self.view c.take-2.new.self.view c.sweep-marks.new.self.view c.put-2.new.self.view c.put-3.new.self.view c.in-Desk.ensures.took c.in-Pool.ensures.took c.sweep-marks.ensures.swept c.put-2.ensures.passed c.requires.idle.holds c.put-3.ensures.passed (Offer c.has_slice-swept.result) c.of-2.ensures)
+
+pub returns-clause-told : goal.returns-clause-told
+returns-clause-told g c =
+    let l : ℕ = c.args.seat + 1 in
+    let far : l ≢ 0 = λ z. omega arith in
+    let list = (part c.take.new.self.view 0).seen in
+    let name = c.put-2.new.self.view.name in
+    sym c.if-not-desk-seat.false ∙ kept_still list c.in-Desk.desk c.args.seat (name, c.of-3.result) (part c.put-3.new.self.view 0).seen (knows list c.in-Desk.desk c.in-Desk.ensures.took.value) c.requires.seat
+    (ap (λ a. keeps c.args.seat name a (kept_from c.args.seat None list)) c.of-3.ensures) (seen_is stands (Fact Tie lends out keeper) (hands_after hand_after empties) l far (locked.Desk c.in-Desk.desk) (locked.Pool c.in-Pool.pool) c.of-2.result c.of-3.result c.sweep-marks.result c.args.pass.now.view c.take.new.self.view c.take-2.new.self.view c.sweep-marks.new.self.view c.put-2.new.self.view c.put-3.new.self.view c.in-Desk.ensures.took c.in-Pool.ensures.took c.sweep-marks.ensures.swept c.put-2.ensures.passed c.requires.idle.holds c.put-3.ensures.passed)
+
+pub returns-then-not-desk-seat-clause-told : goal.returns-then-not-desk-seat-clause-told
+returns-then-not-desk-seat-clause-told g c =
+    let list = (part c.take.new.self.view 0).seen in
+    let name = c.take.new.self.view.name in
+    let still = kept_still list c.in-Desk.desk c.args.seat (name, c.of.result) (part c.put.new.self.view 0).seen (knows list c.in-Desk.desk c.in-Desk.ensures.took.value) c.requires.seat
+    (ap (λ a. keeps c.args.seat name a (kept_from c.args.seat None list)) c.of.ensures) (ap (λ p. p.seen) c.put.ensures.passed.here) in
+    sym c.if-not-desk-seat.true ∙ still
