@@ -9,3 +9,4 @@ pub mod Leaving
 pub mod Naming
 pub mod Asking
 pub mod Step
+pub mod Room

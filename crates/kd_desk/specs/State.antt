@@ -1,5 +1,5 @@
 -- The desk's state.
-use Rattle.std.specs.Prelude.{ℕ, Bool, true, false, List, [], Option, ◌==◌}
+use Rattle.std.specs.Prelude.{◌++◌, ◌∷◌, ℕ, Bool, true, false, List, [], Option, ◌==◌}
 use Rattle.kd_types.specs.declared.creds.Kind.{Kind}
 use Rattle.kd_types.specs.declared.creds.Kind.TheVariants.{Ordinary, Activator, Holder, Monitor}
 use Rattle.kd_model.specs.Words.{those, first}
@@ -65,6 +65,13 @@ is_monitor _ = false
 
 abbrev pub has_id : ℕ → Conn → Bool
 has_id id c = c.id == id
+
+abbrev pub has_seat : ℕ → Conn → Bool
+has_seat seat c = c.seat == seat
+
+-- a seat that waits for its caller
+abbrev pub with_blocked : ℕ → Desk → Desk
+with_blocked seat d = record d { blocked = d.blocked ++ seat ∷ [] }
 
 -- the live connection of this id
 abbrev pub conn_of : Desk → ℕ → Option Conn

@@ -8,12 +8,15 @@
 //!        +--- plan ---> refusal, or a plan ---- each part gets its answer ---- finish
 //! ```
 //!
-//! What a plan is stands in `specs/`, command by command, over the definitions of the crates below: claims, policy, labels, rules,
-//! seals, requests and images.
+//! Today the code makes a desk, tells and blocks its seats, and asks the four rights. What a plan is stands in `specs/`, command by
+//! command, over the definitions of the crates below: claims, policy, labels, rules, seals, requests and images.
 #![tactic(auto)]
 
 mod conn;
+mod desk;
+mod rights;
 mod who;
 
 pub use conn::Conn;
+pub use desk::{Desk, SEATS};
 pub use who::{Who, WhoKind};

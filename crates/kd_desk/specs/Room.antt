@@ -1,0 +1,26 @@
+-- What contracts see of a desk, and what its tables have room for.
+use Rattle.std.specs.Prelude.{◌≡◌, ◌≤◌, vec_capacity}
+use Rattle.kd_desk.specs.declared.desk.Desk.TheInside.{Inside}
+use Rattle.kd_desk.specs.State.{Desk}
+
+-- the table of rules has the size of the bus's filters
+abbrev pub desk_of : Inside → Desk
+desk_of d = record {
+  creator = d.creator;
+  hashes = d.param.hashes;
+  conns = d.conns.items;
+  blocked = d.gone.items;
+  endpoints = d.endpoints;
+  policy = d.policy;
+  registry = d.registry;
+  rules = d.matches;
+  seals = d.seals;
+  requests = d.replies;
+  next_id = d.next_id;
+  moment = d.moment;
+}
+
+pub record HasRoom (d : Inside) : Type 0 where
+  pub size : d.param.size ≡ d.matches.size
+  pub conns : 64 ≤ vec_capacity d.conns
+  pub gone : 64 ≤ vec_capacity d.gone

@@ -1,0 +1,103 @@
+//! The desk of a bus.
+
+ghost use Rattle.std.specs.Prelude.{◌≡◌, ◌<◌, IfOk, length, nat_le};
+ghost use Rattle.kd_model.specs.Words.{contains, some_of};
+ghost use Rattle.kd_desk.specs.State.{opening, has_seat, with_blocked};
+
+use crate::conn::Conn;
+use kd_bloom::Param;
+use kd_endpoint::Endpoints;
+use kd_match::Matches;
+use kd_policy::PolicyDb;
+use kd_registry::Registry;
+use kd_replies::Replies;
+use kd_seal::Seals;
+use kd_types::{Moment, Seat};
+use std::alloc::{AllocError, Global};
+use std::marker::Model;
+
+/// The seats of a bus: so many connections with a pool it has at once.
+pub const SEATS: usize = 64;
+
+/// What a bus knows of its callers, seen as one record.
+#[derive(Debug, Drop)]
+pub struct Desk {
+    pub(crate) creator: u32,
+    pub(crate) param: Param,
+    /// By rising seat.
+    pub(crate) conns: Vec<Conn>,
+    /// The seats of connections that others closed.
+    pub(crate) gone: Vec<Seat>,
+    pub(crate) endpoints: Endpoints,
+    pub(crate) policy: PolicyDb,
+    pub(crate) registry: Registry,
+    pub(crate) matches: Matches,
+    pub(crate) seals: Seals,
+    pub(crate) replies: Replies,
+    pub(crate) next_id: u64,
+    pub(crate) moment: Moment,
+}
+
+impl Model for Desk {
+    ghost use Rattle.kd_desk.specs.State as state;
+    ghost use Rattle.kd_desk.specs.Room.{HasRoom, desk_of};
+
+    ghost Value = { state.Desk };
+
+    ghost view = { desk_of };
+
+    ghost invariant = { HasRoom };
+}
+
+impl Desk {
+    /// The desk of a new bus, by the user who makes it and the parameter of its filters. All tables are made with room for as much as
+    /// 64 connections can have.
+    #[tactic(auto, unfolding(crate::specs::State::opening))]
+    pub fn make(alloc: Global, creator: u32, param: Param) -> Result<Desk, AllocError>
+        ensures opening { IfOk result (λ d. d ≡ opening creator param.size param.hashes) }
+    {
+        Ok(Desk {
+            creator,
+            param,
+            conns: Vec::with_capacity(alloc, SEATS)?,
+            gone: Vec::with_capacity(alloc, SEATS)?,
+            endpoints: Endpoints::make(alloc)?,
+            policy: PolicyDb::make(alloc)?,
+            registry: Registry::make(alloc)?,
+            matches: Matches::make(alloc, param)?,
+            seals: Seals::make(alloc)?,
+            replies: Replies::make(alloc)?,
+            next_id: 1,
+            moment: Moment(0),
+        })
+    }
+
+    /// Whether a live connection has the seat.
+    pub fn occupied(&self, seat: Seat) -> bool
+        ensures { result ≡ some_of (has_seat seat) self.now.conns }
+    {
+        self.conns.iter().any(|conn| conn.seat == seat)
+    }
+
+    /// Whether the seat waits for the caller of a connection that others closed.
+    pub fn blocked(&self, seat: Seat) -> bool
+        ensures { result ≡ contains seat self.now.blocked }
+    {
+        self.gone.iter().any(|gone| seat == *gone)
+    }
+
+    /// Whether all seats are blocked.
+    pub fn is_full(&self) -> bool
+        ensures { result ≡ nat_le 64 (length self.now.blocked) }
+    {
+        SEATS <= self.gone.len()
+    }
+
+    /// Blocks a seat in a new desk, whose caller has yet to learn that its connection is gone.
+    pub fn block(&mut self, seat: Seat)
+        requires room { length self.old.blocked < 64 }
+        ensures { self.new ≡ with_blocked seat self.old }
+    {
+        self.gone.push(seat).unwrap();
+    }
+}
