@@ -1,5 +1,5 @@
 -- Worked examples, as theorems that compute.
-use Rattle.std.proofs.Common.{◌≡◌, ℕ, true, false, List, [], ◌∷◌, refl}
+use Rattle.std.proofs.Common.{◌≡◌, true, false, [], ◌∷◌, refl}
 use Rattle.sha2.specs.Sha256.{sha256, digest_bytes, hash_after, compress, rounds, schedule, first_words}
 use Rattle.kd_bloom.specs.Bits.{has, numbers, passes, meets}
 use Rattle.kd_bloom.specs.Bloom.{string_bits, digest_bit}

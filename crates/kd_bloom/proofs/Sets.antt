@@ -1,14 +1,14 @@
 -- Sets of bits: what passes says, and that it may be told by words.
 use Rattle.std.proofs.Common.{◌≡◌, ℕ, zero, suc, ◌+◌, ◌*◌, ◌/◌, ◌%◌, ◌^◌, ◌<◌, ◌≤◌, ◌==◌, Bool, true, false, cond, ◌⊎◌, inl, inr, List, [], ◌∷◌, length, get_or, refl, ap, sym, ◌∙◌, arith, bit_and, min, filter}
 use Rattle.std.specs.Int.{bit_at}
-use Rattle.std.specs.List.{list_all, range_with_len, zip}
+use Rattle.std.specs.List.{list_all, range_with_len}
 use Rattle.std.proofs.lemmas.Bool.{cases_lt, cases_eq, and_parts, false≢true, eqb-true, eq-eqb}
 use Rattle.std.proofs.lemmas.List.{get_or_past}
 use Rattle.std.proofs.lemmas.Nat.{and_le_r, div-mul-add, mod-mul-add}
 use Rattle.std.proofs.lemmas.Nat.Bits.{bit_at_and, bit_at-zero, bit_at-lt, same_from_bits_below}
 use Rattle.std.specs.Int.Bits.{and_zero_r}
 use Rattle.kd_bloom.specs.Bits.{has, numbers, passes}
-use Rattle.kd_bloom.specs.Packed.{unpacked}
+use Rattle.kd_bloom.specs.Packed.{unpacked, words_fit}
 use Rattle.kd_bloom.proofs.Joined.{AreBelow, bit_of_word}
 
 -- what passes a test throughout a filtered range
@@ -70,19 +70,15 @@ passes_same f f' m m' ef em =
 
 -- ---- by words
 
--- the filter's word has every bit of the mask's
-abbrev pub word_fits : ℕ × ℕ → Bool
-word_fits p = bit_and p.0 p.1 == p.1
-
 abbrev AllFit : List ℕ → List ℕ → Type 0
 AllFit fs ms = (i : ℕ) → bit_and (get_or fs i 0) (get_or ms i 0) ≡ get_or ms i 0
 
-zip_all : (fs ms : List ℕ) → length fs ≡ length ms → AllFit fs ms → list_all word_fits (zip fs ms) ≡ true
+zip_all : (fs ms : List ℕ) → length fs ≡ length ms → AllFit fs ms → words_fit fs ms ≡ true
 zip_all [] ms e h = refl
 zip_all (f ∷ fs) [] e h = refl
 zip_all (f ∷ fs) (m ∷ ms) e h = rw (eq-eqb (bit_and f m) m (h 0)) (zip_all fs ms (omega arith) (λ i. h (suc i)))
 
-all_zip : (fs ms : List ℕ) → length fs ≡ length ms → list_all word_fits (zip fs ms) ≡ true → AllFit fs ms
+all_zip : (fs ms : List ℕ) → length fs ≡ length ms → words_fit fs ms ≡ true → AllFit fs ms
 all_zip fs [] e h i = and_zero_r (get_or fs i 0)
 all_zip [] (m ∷ ms) e h i = absurd (omega arith)
 all_zip (f ∷ fs) (m ∷ ms) e h zero = eqb-true _ _ ((and_parts (bit_and f m == m) _ h).0)
@@ -125,8 +121,8 @@ each_fit fs ms bf bm h i =
     one_bit j lt = bit_at_and (get_or fs i 0) (get_or ms i 0) j ∙ lesser_same _ _ (bit_at-lt (get_or fs i 0) j) (bit_at-lt (get_or ms i 0) j) (set_in_mask j lt)
 
 -- word by word the test is the same
-pub passes_by_words : (fs ms : List ℕ) → length fs ≡ length ms → AreBelow (2 ^ 64) fs → AreBelow (2 ^ 64) ms → list_all word_fits (zip fs ms) ≡ passes (unpacked fs) (unpacked ms)
+pub passes_by_words : (fs ms : List ℕ) → length fs ≡ length ms → AreBelow (2 ^ 64) fs → AreBelow (2 ^ 64) ms → words_fit fs ms ≡ passes (unpacked fs) (unpacked ms)
 passes_by_words fs ms e bf bm =
-    same_bool (list_all word_fits (zip fs ms)) (passes (unpacked fs) (unpacked ms))
+    same_bool (words_fit fs ms) (passes (unpacked fs) (unpacked ms))
     (λ all. passes_true (unpacked fs) (unpacked ms) (fit_each fs ms bf bm (all_zip fs ms e all)))
     (λ all. zip_all fs ms e (each_fit fs ms bf bm (passes_each (unpacked fs) (unpacked ms) all)))

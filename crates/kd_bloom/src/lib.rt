@@ -12,8 +12,8 @@
 //! words   | w0 w1 .. (width) | w0 w1 .. (width) |      one of generation 1, 2, .. against the second
 //! ```
 //!
-//! Bits are packed into words of 64 bits, so that a test looks at eight bytes at a time. Bit b is bit b mod 8, the least first, of
-//! byte b / 8.
+//! Bits are packed into words of 64 bits. A test looks at whole blocks of eight words first, each with no way out between its words,
+//! and then at the words behind them, one by one. Bit b is bit b mod 8, the least first, of byte b / 8.
 #![tactic(auto)]
 
 mod bits;

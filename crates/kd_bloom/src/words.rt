@@ -2,10 +2,13 @@
 
 ghost use Rattle.std.specs.Prelude.{◌≡◌, ◌≤◌, ◌++◌, ◌-◌, length, replicate, IfOk};
 ghost use Rattle.kd_bloom.specs.Bits.{passes};
-ghost use Rattle.kd_bloom.specs.Packed.{Packs, word, unpacked};
+ghost use Rattle.kd_bloom.specs.Packed.{Packs, word, blocks_fit, unpacked, words_fit};
 
 use byteorder::{ByteOrder, LittleEndian};
 use std::alloc::{AllocError, Global};
+
+/// The words of a mask of 64 bytes, which are tested together.
+const BLOCK: usize = 8;
 
 /// The bytes as words, the last one filled up with zeros.
 pub(crate) fn pack(alloc: Global, bytes: &[u8]) -> Result<Vec<u64>, AllocError>
@@ -39,5 +42,44 @@ pub(crate) fn covers(filter: &[u64], mask: &[u64]) -> bool
     requires { length filter.now ≡ length mask.now }
     ensures { result ≡ passes (unpacked filter.now) (unpacked mask.now) }
 {
-    filter.iter().zip(mask).all(|(f, m)| f & m == *m)
+    let (filter_blocks, filter_rest) = filter.as_chunks::<BLOCK>();
+    let (mask_blocks, mask_rest) = mask.as_chunks::<BLOCK>();
+    blocks_cover(filter_blocks, mask_blocks) && each_covers(filter_rest, mask_rest)
+}
+
+/// The same of whole blocks.
+fn blocks_cover(filter: &[[u64; BLOCK]], mask: &[[u64; BLOCK]]) -> bool
+    requires { length filter.now ≡ length mask.now }
+    ensures { result ≡ blocks_fit filter.now mask.now }
+{
+    'each: for i in 0..mask.len() {
+        if !block_covers(&filter[i], &mask[i]) {
+            return false;
+        }
+    }
+    true
+}
+
+/// The same of one block, with no way out between its words, so that the compiler may test several at once.
+fn block_covers(filter: &[u64; BLOCK], mask: &[u64; BLOCK]) -> bool
+    ensures { result ≡ words_fit filter.now mask.now }
+{
+    let mut lacking = 0;
+    'words: for i in 0..BLOCK {
+        lacking |= !filter[i] & mask[i];
+    }
+    lacking == 0
+}
+
+/// The same of fewer words than a block has, one by one.
+fn each_covers(filter: &[u64], mask: &[u64]) -> bool
+    requires { length filter.now ≡ length mask.now }
+    ensures { result ≡ words_fit filter.now mask.now }
+{
+    'each: for i in 0..mask.len() {
+        if filter[i] & mask[i] != mask[i] {
+            return false;
+        }
+    }
+    true
 }

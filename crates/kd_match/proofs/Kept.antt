@@ -1,7 +1,9 @@
 -- What holds of all rules holds of those that are kept, and of those of one connection.
-use Rattle.std.proofs.Common.{◌≡◌, ℕ, zero, suc, ◌<◌, Bool, true, false, cond, not, ◌&&◌, ◌||◌, List, [], ◌∷◌, length, get_or, filter, Ok, refl, ap, arith, eqb}
+use Rattle.std.proofs.Common.{◌≡◌, ℕ, zero, suc, ◌<◌, Bool, true, false, cond, not, ◌&&◌, ◌||◌, List, [], ◌∷◌, length, get_or, filter, Ok, refl, ap, sym, arith, eqb}
+use Rattle.std.specs.Prelude.{nat_le}
 use Rattle.std.specs.List.{list_all, list_any}
-use Rattle.std.proofs.lemmas.Bool.{and_parts, and_from, or_parts, not-false}
+use Rattle.std.proofs.lemmas.Bool.{and_parts, and_from, or_parts, not-false, leb-false}
+use Rattle.std.proofs.lemmas.List.Filters.{length-filter_both}
 use Rattle.std.proofs.lemmas.List.Kept.{IsNonDecreasingBy-filter}
 use Rattle.kd_model.specs.Words.{put_in_order, but_those, all_of, some_of}
 use Rattle.kd_match.specs.declared.rule.Rule.{Rule}
@@ -31,6 +33,17 @@ all_put p rule (x ∷ xs) here all = go (is_before rule x) refl (all_put p rule 
     go : (t : Bool) → is_before rule x ≡ t → list_all p (put_in_order is_before rule xs) ≡ true → list_all p (put_in_order is_before rule (x ∷ xs)) ≡ true
     go true e later = rw (e, put_in_order) (and_from (p rule) (list_all p (x ∷ xs)) here all)
     go false e later = rw (e, put_in_order) (and_from (p x) (list_all p (put_in_order is_before rule xs)) ((and_parts (p x) (list_all p xs) all).0) later)
+
+twice : (b : Bool) → b ≡ not (not b)
+twice true = refl
+twice false = refl
+
+-- a table that isn't full has room, whichever rules stay
+pub has_room : (p : Rule → Bool) (rules : List Rule) → false ≡ nat_le 4096 (length rules) → length (but_those p rules) < 4096
+has_room p rules some =
+    let both = length-filter_both (λ r. not (p r)) p (λ r. twice (p r)) rules in
+    let few = leb-false 4096 (length rules) (sym some) in
+    omega arith
 
 -- the connection's rules that stay
 pub own_kept : (id cookie : ℕ) (rules : List Rule) → filter (λ (r : Rule). not (eqb r.cookie cookie)) (rules_of id rules) ≡ rules_of id (but_those (is_named id cookie) rules)

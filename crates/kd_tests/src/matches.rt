@@ -59,6 +59,20 @@ fn add(
     Ok(matches.add(ConnId(id), Cookie(cookie), conditions, false))
 }
 
+/// Adds a rule in place of the connection's rules with its cookie.
+#[tactic(auto, using(kd_match::proofs::Kept::has_room))]
+fn replace(
+    matches: &mut Matches,
+    id: u64,
+    cookie: u64,
+    conditions: Vec<Condition>,
+) -> Result<Result<(), Refusal>, Fail> {
+    if matches.is_full() {
+        return Err("the table is full".into());
+    }
+    Ok(matches.add(ConnId(id), Cookie(cookie), conditions, true))
+}
+
 /// `a.b`, which came to connection 4.
 fn came(alloc: Global) -> Result<Change, Fail> {
     Ok(Change {
@@ -109,87 +123,27 @@ fn a_condition_holds_of_its_own_kind_alone(rt: HostRuntime) -> Result<(), Fail> 
         add(&mut matches, 2, 0, only(alloc, named(alloc, b"a.b")?)?)?,
         Ok(())
     );
-    assert_eq!(rt;
-        add(
-            &mut matches,
-            3,
-            0,
-            only(alloc, Condition::Id { id: ConnId(7) })?
-        )?,
-        Ok(())
-    );
-    assert_eq!(rt;
-        add(
-            &mut matches,
-            4,
-            0,
-            only(alloc, Condition::IdAdd { id: ConnId(7) })?
-        )?,
-        Ok(())
-    );
-    assert_eq!(rt;
-        add(
-            &mut matches,
-            5,
-            0,
-            only(alloc, Condition::IdRemove { id: ConnId(7) })?
-        )?,
-        Ok(())
-    );
+    let seven = only(alloc, Condition::Id { id: ConnId(7) })?;
+    assert_eq!(rt; add(&mut matches, 3, 0, seven)?, Ok(()));
+    let seven_came = only(alloc, Condition::IdAdd { id: ConnId(7) })?;
+    assert_eq!(rt; add(&mut matches, 4, 0, seven_came)?, Ok(()));
+    let seven_went = only(alloc, Condition::IdRemove { id: ConnId(7) })?;
+    assert_eq!(rt; add(&mut matches, 5, 0, seven_went)?, Ok(()));
     let change = Change {
         name: Text::of(alloc, b"a.b")?,
         old: ConnId(3),
         new: ConnId(4),
     };
     let (old, new) = (ConnId(3), ConnId(4));
-    assert_eq!(rt;
-        add(
-            &mut matches,
-            6,
-            0,
-            only(
-                alloc,
-                Condition::NameAdd {
-                    old,
-                    new,
-                    name: Text::of(alloc, b"a.b")?
-                }
-            )?
-        )?,
-        Ok(())
-    );
-    assert_eq!(rt;
-        add(
-            &mut matches,
-            7,
-            0,
-            only(
-                alloc,
-                Condition::NameRemove {
-                    old,
-                    new,
-                    name: Text::of(alloc, b"a.b")?
-                }
-            )?
-        )?,
-        Ok(())
-    );
-    assert_eq!(rt;
-        add(
-            &mut matches,
-            8,
-            0,
-            only(
-                alloc,
-                Condition::NameChange {
-                    old,
-                    new,
-                    name: Text::of(alloc, b"a.b")?
-                }
-            )?
-        )?,
-        Ok(())
-    );
+    let name = Text::of(alloc, b"a.b")?;
+    let got = only(alloc, Condition::NameAdd { old, new, name })?;
+    assert_eq!(rt; add(&mut matches, 6, 0, got)?, Ok(()));
+    let name = Text::of(alloc, b"a.b")?;
+    let lost = only(alloc, Condition::NameRemove { old, new, name })?;
+    assert_eq!(rt; add(&mut matches, 7, 0, lost)?, Ok(()));
+    let name = Text::of(alloc, b"a.b")?;
+    let changed = only(alloc, Condition::NameChange { old, new, name })?;
+    assert_eq!(rt; add(&mut matches, 8, 0, changed)?, Ok(()));
     let filter = Bits::of(alloc, &[6, 0, 0, 0, 0, 0, 0, 0])?;
     let mut names = Vec::new(alloc);
     names.push(Text::of(alloc, b"a.b")?)?;
@@ -376,6 +330,29 @@ fn a_filter_is_tested_against_its_generation_or_the_last(rt: HostRuntime) -> Res
 }
 
 #[test]
+fn a_filter_that_lacks_a_bit_of_any_word_is_not_shown(rt: HostRuntime) -> Result<(), Fail> {
+    let alloc = rt.alloc();
+    let param = Param::of(72, 3).ok_or("72 bytes and 3 hashes are in range")?;
+    let mut matches = Matches::make(alloc, param)?;
+    let nine_words = only(alloc, mask(alloc, &[5; 72], 72)?)?;
+    assert_eq!(rt; add(&mut matches, 1, 0, nine_words)?, Ok(()));
+    let change = came(alloc)?;
+    let mut bytes = [0xF5u8; 72];
+    for at in 0..72usize {
+        bytes[at] = 0xF1;
+        let lacking = Bits::of(alloc, &bytes)?;
+        assert_eq!(rt;
+            shown(&matches, 1, &[], &lacking, 0, &change)?,
+            (false, false)
+        );
+        bytes[at] = 0xF5;
+        let whole = Bits::of(alloc, &bytes)?;
+        assert_eq!(rt; shown(&matches, 1, &[], &whole, 0, &change)?, (true, false));
+    }
+    Ok(())
+}
+
+#[test]
 fn a_connection_has_at_most_64_rules(rt: HostRuntime) -> Result<(), Fail> {
     let alloc = rt.alloc();
     let mut matches = no_rules(alloc)?;
@@ -392,6 +369,60 @@ fn a_connection_has_at_most_64_rules(rt: HostRuntime) -> Result<(), Fail> {
         Err(Refusal::TooMany { limit: 64 })
     );
     assert_eq!(rt; add(&mut matches, 2, 0, Vec::new(alloc))?, Ok(()));
+    Ok(())
+}
+
+#[test]
+fn the_64_rules_are_counted_after_those_replaced(rt: HostRuntime) -> Result<(), Fail> {
+    let alloc = rt.alloc();
+    let mut matches = no_rules(alloc)?;
+    for cookie in 0..62 {
+        assert_eq!(rt; add(&mut matches, 1, cookie, Vec::new(alloc))?, Ok(()));
+    }
+    assert_eq!(rt; add(&mut matches, 1, 0, Vec::new(alloc))?, Ok(()));
+    assert_eq!(rt; add(&mut matches, 1, 0, Vec::new(alloc))?, Ok(()));
+    let full = Err(Refusal::TooMany { limit: 64 });
+    assert_eq!(rt; replace(&mut matches, 1, 62, Vec::new(alloc))?, full);
+    assert_eq!(rt; replace(&mut matches, 1, 0, Vec::new(alloc))?, Ok(()));
+    assert_eq!(rt; add(&mut matches, 1, 0, Vec::new(alloc))?, Ok(()));
+    assert_eq!(rt; replace(&mut matches, 1, 62, Vec::new(alloc))?, Ok(()));
+    assert_eq!(rt; replace(&mut matches, 1, 63, Vec::new(alloc))?, full);
+    Ok(())
+}
+
+#[test]
+fn a_rule_takes_the_place_of_those_with_its_cookie(rt: HostRuntime) -> Result<(), Fail> {
+    let alloc = rt.alloc();
+    let mut matches = no_rules(alloc)?;
+    let change = came(alloc)?;
+    let filter = Bits::of(alloc, &[0; 8])?;
+    for id in 1..3 {
+        assert_eq!(rt; add(&mut matches, id, 5, Vec::new(alloc))?, Ok(()));
+        assert_eq!(rt; add(&mut matches, id, 5, many(alloc, 1)?)?, Ok(()));
+    }
+    let id = only(alloc, Condition::Id { id: ConnId(7) })?;
+    assert_eq!(rt; replace(&mut matches, 1, 5, id)?, Ok(()));
+    let came_in = Subject::IdAdd { id: ConnId(9) };
+    assert_eq!(rt;
+        shown(&matches, 1, &[], &filter, 0, &change)?,
+        (true, false)
+    );
+    assert!(rt; !matches.admits(ConnId(1), &came_in));
+    assert_eq!(rt; shown(&matches, 2, &[], &filter, 0, &change)?, (true, true));
+    assert_eq!(rt; replace(&mut matches, 1, 6, many(alloc, 1)?)?, Ok(()));
+    assert_eq!(rt;
+        shown(&matches, 1, &[], &filter, 0, &change)?,
+        (true, false)
+    );
+    assert!(rt; matches.admits(ConnId(1), &came_in));
+    assert_eq!(rt;
+        replace(&mut matches, 1, 5, many(alloc, 17)?)?,
+        Err(Refusal::TooMany { limit: 16 })
+    );
+    assert_eq!(rt;
+        shown(&matches, 1, &[], &filter, 0, &change)?,
+        (true, false)
+    );
     Ok(())
 }
 
@@ -419,7 +450,7 @@ fn a_rule_is_refused_for_its_first_fault(rt: HostRuntime) -> Result<(), Fail> {
 }
 
 #[test]
-fn rules_are_replaced_and_removed_by_connection_and_cookie(rt: HostRuntime) -> Result<(), Fail> {
+fn rules_are_removed_by_connection_and_cookie(rt: HostRuntime) -> Result<(), Fail> {
     let alloc = rt.alloc();
     let mut matches = no_rules(alloc)?;
     let change = came(alloc)?;

@@ -1,11 +1,15 @@
--- The answer of `all` over the pairs of words, as a test of the sets.
-use Rattle.std.proofs.Common.{rules, tests, ◌∙◌, arith}
-use Rattle.std.proofs.lemmas.Iterator.{YieldsList-from_slice, YieldsList-from_zip}
-use Rattle.std.proofs.lemmas.Iterator.Search.{all_from_yields_List}
-use Rattle.kd_bloom.proofs.Sets.{word_fits, passes_by_words}
+-- Whether all blocks are covered, and the words behind them.
+use Rattle.std.proofs.Common.{◌∙◌, ap, sym, ◌&&◌, Bool, arith}
+use Rattle.kd_bloom.specs.Packed.{words_fit}
+use Rattle.kd_bloom.proofs.Blocks.{passes_by_blocks}
 use Rattle.kd_bloom.proofs.words.covers.Goals as goal
 
-pub returns : goal.returns
-returns c =
-    all_from_yields_List word_fits c.all.new.self _ c.all.result c.all.ensures.ran (YieldsList-from_zip (YieldsList-from_slice c.args.filter.now (cc)) (YieldsList-from_slice c.args.mask.now (cc))) (λ x b q k. search (rules, tests))
-    ∙ passes_by_words c.args.filter.now c.args.mask.now c.requires (λ i. omega (arith, c.type_inv.filter i)) (λ i. omega (arith, c.type_inv.mask i))
+pub returns-then-blocks_cover : goal.returns-then-blocks_cover
+returns-then-blocks_cover c =
+    c.each_covers.ensures ∙ ap (λ (b : Bool). b && words_fit c.as_chunks.result.1.now c.as_chunks-2.result.1.now) (sym c.if-blocks_cover.true ∙ c.blocks_cover.ensures)
+    ∙ passes_by_blocks c.args.filter.now c.args.mask.now _ _ _ _ c.requires (λ i. omega (arith, c.type_inv.filter i)) (λ i. omega (arith, c.type_inv.mask i)) c.as_chunks.ensures.front c.as_chunks-2.ensures.front c.as_chunks.ensures.back c.as_chunks-2.ensures.back
+
+pub returns-else-blocks_cover : goal.returns-else-blocks_cover
+returns-else-blocks_cover c =
+    c.if-blocks_cover.false ∙ ap (λ (b : Bool). b && words_fit c.as_chunks.result.1.now c.as_chunks-2.result.1.now) (sym c.if-blocks_cover.false ∙ c.blocks_cover.ensures)
+    ∙ passes_by_blocks c.args.filter.now c.args.mask.now _ _ _ _ c.requires (λ i. omega (arith, c.type_inv.filter i)) (λ i. omega (arith, c.type_inv.mask i)) c.as_chunks.ensures.front c.as_chunks-2.ensures.front c.as_chunks.ensures.back c.as_chunks-2.ensures.back
