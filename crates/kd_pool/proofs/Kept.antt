@@ -8,13 +8,13 @@ use Rattle.std.proofs.lemmas.Bool.Decides.{nat_tests}
 use Rattle.kd_model.proofs.Lists.{all_follow, all_of_found, map_of_filter, map_of_put}
 use Rattle.kd_model.proofs.Places.{at_most_numbers, fewer_than_numbers, order_is_whole, unused_is_free}
 use Rattle.kd_model.specs.Slices as model
-use Rattle.kd_model.specs.Slices.{AreInOrder, Book, IsSound, gaps}
+use Rattle.kd_model.specs.Slices.{AreInOrder, Book, IsEven, IsSound, gaps}
 use Rattle.kd_model.specs.declared.slice_no.TheConstants.{SLICES}
 use Rattle.kd_model.specs.Words.{but_those, put_in_order, some_of}
 use Rattle.kd_pool.specs.State.{Pool, Slice, book_of, has_number, is_lower, placed_of}
 use Rattle.kd_pool.specs.Sound.{IsKept, IsSoundPool}
 use Rattle.kd_pool.specs.Steps.{filled, offset_of, queued, with_content, written}
-use Rattle.kd_pool.specs.Table.{AreKept, in_phase, now_queued, shown}
+use Rattle.kd_pool.specs.Table.{AreKept, IsCarried, in_phase, now_queued, shown}
 use Rattle.kd_pool.specs.declared.slot.Phase.{Phase}
 use Rattle.kd_pool.specs.declared.slot.Slot.{Slot}
 use Rattle.kd_pool.proofs.Publishes.{all_behind, all_stand, all_published}
@@ -108,6 +108,14 @@ ends_inside m b ss room k =
     let order : AreInOrder 0 b.size (map placed_of ss) = rw (sym k.tied) k.sound.order in
     let whole = k.whole in
     all_follow _ _ ss (λ x p. omega (arith, p.1)) (all_behind 0 b.size ss order)
+
+-- the slots of the table can be carried
+pub all_carried : (m : List ℕ) (b : Book) (ss : List Slot) (room : ℕ) → AreKept m b ss room → AllByRecursion (IsCarried (length m)) ss
+all_carried m b ss room k = each 0 b.size (length m) ss (rw (sym k.tied) k.sound.order) (rw (sym k.tied) k.sound.even) (ends_inside m b ss room k)
+  where
+    each : (at size n : ℕ) (ts : List Slot) → AreInOrder at size (map placed_of ts) → AllByRecursion IsEven (map placed_of ts) → AllByRecursion (λ (s : Slot). s.offset + s.len ≤ n) ts → AllByRecursion (IsCarried n) ts
+    each at size n [] o e i = tt
+    each at size n (t ∷ ts) o e i = (record { inside = i.0; some = o.1; eights = e.0.1 }, each (t.offset + t.len) size n ts o.2 e.1 i.1)
 
 -- there are at most as many slots as numbers, and fewer while a number is unused
 pub few_slots : (m : List ℕ) (b : Book) (ss : List Slot) (room : ℕ) → AreKept m b ss room → length ss ≤ SLICES

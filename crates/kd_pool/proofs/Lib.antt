@@ -1,4 +1,7 @@
+pub mod Drains
+pub mod Fills
 pub mod Kept
+pub mod Longs
 pub mod Offers
 pub mod Picks
 pub mod Publishes

@@ -7,6 +7,7 @@ use Rattle.std.proofs.lemmas.List.Elements.{filter-append}
 use Rattle.kd_model.proofs.Least.{IsRanking, least_of_append, lesser_assoc}
 use Rattle.kd_model.specs.Words.{least, lesser, those}
 use Rattle.kd_pool.specs.State.{goes_before, is_earlier}
+use Rattle.kd_pool.specs.Steps.{of_lower_number}
 use Rattle.kd_pool.specs.declared.slot.Slot.{Slot}
 
 -- the best so far and the best of what is left are the best of all
@@ -39,3 +40,13 @@ before_ranks = record { chains = chains; levels = levels }
 
     levels : (a b c : Slot) → goes_before a b ≡ false → goes_before b c ≡ false → goes_before a c ≡ false
     levels a b c p q = grind (arith, nat_tests, ints)
+
+-- slots rank by their number
+pub number_ranks : IsRanking of_lower_number
+number_ranks = record { chains = chains; levels = levels }
+  where
+    chains : (a b c : Slot) → of_lower_number a b ≡ true → of_lower_number b c ≡ true → of_lower_number a c ≡ true
+    chains a b c p q = grind (arith, nat_tests)
+
+    levels : (a b c : Slot) → of_lower_number a b ≡ false → of_lower_number b c ≡ false → of_lower_number a c ≡ false
+    levels a b c p q = grind (arith, nat_tests)

@@ -40,6 +40,11 @@ pub record Image : Type 0 where
   pub user : Option ℕ
   pub source : ℕ
 
+-- messages that were drained from a pool of a size
+pub record Batch : Type 0 where
+  pub size : ℕ
+  pub images : List Image
+
 -- what the holder of the desk does to a pool
 pub data Visit : Type 0 where
   raise : (size : ℕ) → Visit

@@ -137,12 +137,16 @@ of_lower_number a b = nat_lt a.number b.number
 abbrev pub waiting_images : Pool → List Image
 waiting_images p = map image_of (in_order arrived_earlier (those (λ (s : Slice). is_waiting s.slot) p.slices))
 
+-- every waiting message goes
+abbrev pub without_waiting : Pool → Pool
+without_waiting p = record p { slices = but_those (λ (s : Slice). is_waiting s.slot) p.slices }
+
 -- all waiting messages go and are the answer; none goes while a slice is reserved
 unfoldable pub drain_step : Pool → Pool × Answer
 drain_step p =
     elim (least of_lower_number (those is_reserved (slots p))) [
       | Some s ↦ (p, refused (Busy s.number))
-      | None ↦ (record p { slices = but_those (λ (s : Slice). is_waiting s.slot) p.slices }, drained (waiting_images p))
+      | None ↦ (without_waiting p, drained (waiting_images p))
     ]
 
 -- drained messages are placed and queued as their first senders', each or it is missed

@@ -1,10 +1,12 @@
 -- The changes of a pool's table, slot by slot.
-use Rattle.std.specs.Prelude.{◌≡◌, ◌<◌, ◌≤◌, ◌^◌, ℕ, true, false, length, List, map, None, ℤ}
+use Rattle.std.specs.Prelude.{◌≡◌, ◌<◌, ◌≤◌, ◌%◌, ◌+◌, ◌^◌, ℕ, true, false, length, List, map, None, ℤ}
+use Rattle.std.specs.List.{AllByRecursion}
 use Rattle.kd_model.specs.Slices.{Book, IsSound}
 use Rattle.kd_model.specs.declared.slice_no.TheConstants.{SLICES}
-use Rattle.kd_pool.specs.State.{Slice, has_number, placed_of}
+use Rattle.kd_model.specs.Words.{in_order, those}
+use Rattle.kd_pool.specs.State.{Image, Slice, has_number, is_earlier, is_waiting, placed_of}
 use Rattle.kd_pool.specs.Sound.{range_of}
-use Rattle.kd_pool.specs.Steps.{queued}
+use Rattle.kd_pool.specs.Steps.{image_of, queued}
 use Rattle.kd_pool.specs.declared.slot.Phase.{Phase}
 use Rattle.kd_pool.specs.declared.slot.Slot.{Slot}
 
@@ -26,4 +28,24 @@ pub record AreKept (memory : List ℕ) (book : Book) (table : List Slot) (room :
   pub sound : IsSound book
   pub whole : length memory ≡ book.size
   pub fits : book.size < 2 ^ 32
+  pub enough : SLICES ≤ room
+
+-- the slots that wait, by rising arrival
+abbrev pub arrivals : List Slot → List Slot
+arrivals ss = in_order is_earlier (those is_waiting ss)
+
+-- the message of a slot, with its bytes in memory
+abbrev pub carried : List ℕ → Slot → Image
+carried memory s = image_of (shown memory s)
+
+-- a slot that lies inside a memory of a size, and has a positive multiple of 8 bytes
+pub record IsCarried (size : ℕ) (s : Slot) : Type 0 where
+  pub inside : s.offset + s.len ≤ size
+  pub some : 0 < s.len
+  pub eights : s.len % 8 ≡ 0
+
+-- what a buffer of drained messages keeps: slots inside its memory, at most as many as there are numbers, and room for that many
+pub record AreCarried (memory : List ℕ) (rows : List Slot) (room : ℕ) : Type 0 where
+  pub each : AllByRecursion (IsCarried (length memory)) rows
+  pub few : length rows ≤ SLICES
   pub enough : SLICES ≤ room

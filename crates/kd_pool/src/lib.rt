@@ -12,14 +12,20 @@
 //! slice, reads its bytes, and frees it. A freed slice keeps its range until the next sweep, which stands
 //! at the beginning of each offer. A receive may also drop its slice at once.
 //!
+//! A notice of the bus is posted: it is reserved and published at once. All messages that wait can be drained
+//! into a buffer, and settle from there in another pool.
+//!
 //! After the kdbus manual page kdbus.pool; placement, slice numbers and the quota are this project's own.
 #![tactic(auto)]
 
+mod drained;
+mod giving;
 mod memory;
 mod pool;
 mod receive;
 mod slot;
 mod table;
 
+pub use drained::Drained;
 pub use pool::Pool;
 pub use receive::{Got, RecvMode};

@@ -28,12 +28,20 @@ fn write_piece(memory: &mut Vec<u8>, at: usize, piece: &[u8])
     memory[at..at + piece.len()].copy_from_slice(piece);
 }
 
+/// The bytes over a range.
+pub fn range(memory: &[u8], at: usize, len: usize) -> &[u8]
+    requires inside { at + len ≤ length memory.now }
+    ensures { result.now ≡ take len (drop at memory.now) }
+{
+    let (_, behind) = memory.split_at(at);
+    let (range, _) = behind.split_at(len);
+    range
+}
+
 /// A copy of the bytes over a range.
 pub fn copy(alloc: Global, memory: &[u8], at: usize, len: usize) -> Result<Vec<u8>, AllocError>
     requires inside { at + len ≤ length memory.now }
     ensures { IfOk result (λ v. v.items ≡ take len (drop at memory.now)) }
 {
-    let (_, behind) = memory.split_at(at);
-    let (range, _) = behind.split_at(len);
-    Vec::from_slice(alloc, range)
+    Vec::from_slice(alloc, range(memory, at, len))
 }

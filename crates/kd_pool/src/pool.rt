@@ -1,27 +1,30 @@
 //! The pool and its calls.
 
-ghost use Rattle.std.specs.Prelude.{if◌then◌else◌, [], ◌≡◌, ◌≢◌, ◌<◌, ◌%◌, ◌+◌, ◌++◌, ◌^◌, false, IfErr, IfOk, IsTrue, None, OnErr, OnOk, Some, length, map, vec_capacity};
+ghost use Rattle.std.specs.Prelude.{if◌then◌else◌, [], ◌∷◌, ◌≡◌, ◌≢◌, ◌<◌, ◌≤◌, ◌%◌, ◌+◌, ◌-◌, ◌++◌, ◌^◌, false, IfErr, IfOk, IsTrue, None, OnErr, OnOk, Some, length, map, vec_capacity};
+ghost use Rattle.std.specs.List.{AllByRecursion};
+ghost use Rattle.kd_model.specs.declared.slice_no.TheConstants.{SLICES};
 ghost use Rattle.kd_model.specs.Slices.{IsSound, is_placed, used, without};
 ghost use Rattle.kd_model.specs.Words.{but_those, some_of};
 ghost use Rattle.kd_pool.specs.Sound.{IsSoundPool};
-ghost use Rattle.kd_pool.specs.State.{book_of, bytes_of, has_number, is_freed, is_pending, placed_of, refused, slots};
+ghost use Rattle.kd_pool.specs.State.{book_of, bytes_of, has_number, is_freed, is_pending, is_waiting, placed_of, refused, slots};
 ghost use Rattle.kd_pool.specs.State as state;
-ghost use Rattle.kd_pool.specs.Steps.{after_miss, after_taking, emptied, filled, free_refusal, must_offer_step, new_pool, read_answer, receive_step, reserve_step, reserved_length, swept, unbound_offer_step, with_phase};
+ghost use Rattle.kd_pool.specs.Steps.{after_miss, after_taking, drain_step, emptied, fill_step, filled, free_refusal, must_offer_step, new_pool, post_step, read_answer, receive_step, reserve_step, reserved_length, settled, swept, unbound_offer_step, with_phase, without_waiting};
 ghost use Rattle.kd_pool.specs.Steps as steps;
-ghost use Rattle.kd_pool.specs.Table.{AreKept, shown};
-ghost use Rattle.kd_pool.specs.Told.{offered, received};
+ghost use Rattle.kd_pool.specs.Table.{AreKept, IsCarried, carried, shown};
+ghost use Rattle.kd_pool.specs.Told.{RefusesLong, drained_into, offered, received};
 
+use crate::drained::Drained;
 use crate::receive::{Got, RecvMode};
 use crate::slot::{Phase, Slot};
-use crate::{memory, table};
+use crate::{giving, memory, table};
 use kd_model::{NoPlace, SLICES, SliceBook, SliceNo};
 use kd_slices::Slices;
 use kd_types::{ConnId, Refusal};
 use std::alloc::{AllocError, Global};
 use std::marker::Model;
 
-/// An open pool. No call but `make` and `read` takes memory, and none but `publish` and `read` touches the
-/// pool's bytes.
+/// An open pool. No call but `make` and `read` takes memory, and the pool's bytes are written by `publish`,
+/// `post` and `settle` alone.
 #[derive(Debug, Drop)]
 pub struct Pool {
     memory: Vec<u8>,
@@ -127,6 +130,14 @@ impl Pool {
         requires count { self.old.dropped < 2 ^ 63 }
         ensures { self.new ≡ after_miss self.old }
     {
+        self.count_miss();
+    }
+
+    /// Raises the dropped count.
+    fn count_miss(&mut self)
+        requires count { self.old.dropped < 2 ^ 64 - 1 }
+        ensures { self.new ≡ after_miss self.old }
+    {
         self.dropped += 1;
     }
 
@@ -137,12 +148,83 @@ impl Pool {
         requires count { self.old.next_arrival < 2 ^ 63 }
         ensures { self.new ≡ filled number (record { image = prefix.now ++ payload.now; shared = None; priority = priority }) self.old }
     {
+        self.write(number, prefix, payload, priority);
+    }
+
+    /// Writes a message into a reserved slice and queues it.
+    fn write(&mut self, number: SliceNo, prefix: &[u8], payload: &[u8], priority: i64)
+        requires reserved { reserved_length number self.old ≡ Some (length prefix.now + length payload.now) }
+        requires count { self.old.next_arrival < 2 ^ 64 - 1 }
+        ensures { self.new ≡ filled number (record { image = prefix.now ++ payload.now; shared = None; priority = priority }) self.old }
+    {
         let Some(slot) = table::find(&self.slots, number) else {
             unreachable!();
         };
         memory::write(&mut self.memory, slot.offset as usize, prefix, payload);
         table::set_queued(&mut self.slots, number, priority, self.next_arrival);
         self.next_arrival += 1;
+    }
+
+    /// Places and queues a message at once, or counts it as missed.
+    fn fill(
+        &mut self,
+        image: &[u8],
+        len: u32,
+        user: Option<u32>,
+        source: ConnId,
+        priority: i64,
+    ) -> Result<SliceNo, Refusal>
+        requires some { 0 < len }
+        requires eights { len % 8 ≡ 0 }
+        requires whole { length image.now ≡ len }
+        requires arrivals { self.old.next_arrival < 2 ^ 64 - 1 }
+        requires misses { self.old.dropped < 2 ^ 64 - 1 }
+        ensures state { self.new ≡ (fill_step (record { image = image.now; shared = None; priority = priority }) user source self.old).0 }
+        ensures answer { offered result ≡ (fill_step (record { image = image.now; shared = None; priority = priority }) user source self.old).1 }
+        ensures arrivals { self.new.next_arrival ≤ self.old.next_arrival + 1 }
+        ensures misses { self.new.dropped ≤ self.old.dropped + 1 }
+    {
+        match self.reserve(user, len, source) {
+            Err(why) => {
+                self.count_miss();
+                Err(why)
+            }
+            Ok(number) => {
+                self.write(number, &[], image, priority);
+                Ok(number)
+            }
+        }
+    }
+
+    /// Why a message has no place that is longer than a pool can be.
+    fn why_too_long(&self) -> Refusal
+        ensures { RefusesLong result self.now }
+    {
+        if self.slots.len() < SLICES as usize {
+            Refusal::PoolFull
+        } else {
+            Refusal::SlicesSpent
+        }
+    }
+
+    /// Queues a notice of the bus, which has no user: sweeps, and places it and writes it at once.
+    /// `SlicesSpent` where all numbers are in use, `PoolFull` where no gap holds it; then it is counted as
+    /// missed.
+    pub fn post(&mut self, image: &[u8]) -> Result<SliceNo, Refusal>
+        requires some { 0 < length image.now }
+        requires eights { length image.now % 8 ≡ 0 }
+        requires arrivals { self.old.next_arrival < 2 ^ 63 }
+        requires misses { self.old.dropped < 2 ^ 63 }
+        ensures state { self.new ≡ (post_step image.now self.old).0 }
+        ensures answer { offered result ≡ (post_step image.now self.old).1 }
+    {
+        self.sweep();
+        let Ok(len) = u32::try_from(image.len()) else {
+            let why = self.why_too_long();
+            self.count_miss();
+            return Err(why);
+        };
+        self.fill(image, len, None, ConnId(0), 0)
     }
 
     /// Takes the next message. `NoMessage` where none waits, with the count of missed messages;
@@ -231,16 +313,90 @@ impl Pool {
     pub fn sweep(&mut self)
         ensures { self.new ≡ swept self.old }
     {
-        give_back_freed(&mut self.book, &self.slots);
+        giving::give_back_freed(&mut self.book, &self.slots);
         table::take_out_freed(&mut self.slots);
+    }
+
+    /// Takes all messages that wait out, queued or peeked at, by rising arrival, into an empty buffer that was
+    /// made for this pool's size. `Busy` of the lowest number that is reserved, if any; then nothing changes.
+    pub fn drain(&mut self, into: &mut Drained) -> Result<(), Refusal>
+        requires size { into.old.size ≡ self.old.size }
+        requires empty { into.old.images ≡ [] }
+        ensures state { self.new ≡ (drain_step self.old).0 }
+        ensures answer { drained_into result into.new.images ≡ (drain_step self.old).1 }
+        ensures size { into.new.size ≡ into.old.size }
+        ensures err { OnErr result (into.new ≡ into.old) }
+    {
+        if let Some(slot) = table::lowest_reserved(&self.slots) {
+            let slice = u64::from(slot.number.0);
+            return Err(Refusal::Busy { slice });
+        }
+        into.take_over(&self.memory, &self.slots);
+        self.drop_waiting();
+        Ok(())
+    }
+
+    /// Takes all slices out that wait.
+    fn drop_waiting(&mut self)
+        ensures { self.new ≡ without_waiting self.old }
+    {
+        giving::give_back_waiting(&mut self.book, &self.slots);
+        table::take_out_waiting(&mut self.slots);
+    }
+
+    /// Sweeps, and places each drained message in turn as its first sender's, without a quota; one that finds no
+    /// number or gap is counted as missed. Then the buffer is empty.
+    pub fn settle(&mut self, from: &mut Drained)
+        requires arrivals { self.old.next_arrival < 2 ^ 63 }
+        requires misses { self.old.dropped < 2 ^ 63 }
+        ensures state { self.new ≡ settled from.old.images (swept self.old) }
+        ensures empty { from.new ≡ record from.old { images = [] } }
+    {
+        self.sweep();
+        let (memory, rows) = from.parts();
+        self.settle_each(memory, rows);
+        from.clear();
+    }
+
+    /// Places the messages of slots in a memory, in turn.
+    fn settle_each(&mut self, memory: &[u8], rows: &[Slot])
+        requires few { length rows.now ≤ SLICES }
+        requires each { AllByRecursion (IsCarried (length memory.now)) rows.now }
+        requires arrivals { self.old.next_arrival < 2 ^ 63 }
+        requires misses { self.old.dropped < 2 ^ 63 }
+        ensures { self.new ≡ settled (map (carried memory.now) rows.now) self.old }
+    {
+        'rows: for row in rows {
+            self.settle_one(memory, row);
+        }
+    }
+
+    /// Places the message of a slot in a memory.
+    fn settle_one(&mut self, memory: &[u8], row: &Slot)
+        requires carried { IsCarried (length memory.now) row.now }
+        requires arrivals { self.old.next_arrival < 2 ^ 64 - 1 }
+        requires misses { self.old.dropped < 2 ^ 64 - 1 }
+        ensures state { self.new ≡ settled (carried memory.now row.now ∷ []) self.old }
+        ensures arrivals { self.new.next_arrival ≤ self.old.next_arrival + 1 }
+        ensures misses { self.new.dropped ≤ self.old.dropped + 1 }
+    {
+        let image = memory::range(memory, row.offset as usize, row.len as usize);
+        let _ = self.fill(image, row.len, row.user, row.source, row.priority);
     }
 
     /// Takes every slice out.
     pub fn close(&mut self)
         ensures { self.new ≡ emptied self.old }
     {
-        give_back_all(&mut self.book, &self.slots);
+        giving::give_back_all(&mut self.book, &self.slots);
         self.slots.clear();
+    }
+
+    /// How many bytes it has.
+    pub fn size(&self) -> u32
+        ensures { result ≡ self.now.size }
+    {
+        self.memory.len() as u32
     }
 
     /// How many bytes all slices take, freed ones that aren't swept included.
@@ -285,40 +441,5 @@ impl Pool {
         ensures { result ≡ some_of is_pending (slots self.now) }
     {
         table::some_pending(&self.slots)
-    }
-}
-
-/// Gives the slices of all freed slots back.
-fn give_back_freed(book: &mut Slices, slots: &[Slot])
-    requires tied { book.old.slices ≡ map placed_of slots.now }
-    requires sound { IsSound book.old }
-    ensures freed { book.new ≡ record book.old { slices = map placed_of (but_those is_freed slots.now) } }
-    ensures sound { IsSound book.new }
-{
-    'slots: for slot in slots {
-        give_back_if_freed(book, slot);
-    }
-}
-
-fn give_back_if_freed(book: &mut Slices, slot: &Slot)
-    requires placed { IsTrue (is_placed slot.now.number book.old) }
-    requires sound { IsSound book.old }
-    ensures freed { book.new ≡ (if is_freed slot.now then without slot.now.number book.old else book.old) }
-    ensures sound { IsSound book.new }
-{
-    if table::is_freed(slot) {
-        book.give_back(slot.number);
-    }
-}
-
-/// Gives the slices of all slots back.
-fn give_back_all(book: &mut Slices, slots: &[Slot])
-    requires tied { book.old.slices ≡ map placed_of slots.now }
-    requires sound { IsSound book.old }
-    ensures all { book.new ≡ record book.old { slices = [] } }
-    ensures sound { IsSound book.new }
-{
-    'slots: for slot in slots {
-        book.give_back(slot.number);
     }
 }

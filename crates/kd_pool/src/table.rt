@@ -1,11 +1,11 @@
 //! The table of a pool's slices: its questions and its changes.
 
-ghost use Rattle.std.specs.Prelude.{[], ◌∷◌, ◌≡◌, ◌<◌, ◌≤◌, ◌&&◌, Some, length, map, nat_lt, vec_capacity, vec_len};
+ghost use Rattle.std.specs.Prelude.{if◌then◌else◌, [], ◌∷◌, ◌≡◌, ◌<◌, ◌≤◌, ◌&&◌, Some, length, map, nat_lt, vec_capacity, vec_len};
 ghost use Rattle.std.specs.List.{position};
 ghost use Rattle.kd_model.specs.Words.{but_those, first, least, lesser, put_in_order, some_of, those};
-ghost use Rattle.kd_pool.specs.State.{goes_before, has_number, is_earlier, is_freed, is_lower, is_pending, is_pending_of, is_readable, is_waiting, is_within};
-ghost use Rattle.kd_pool.specs.Steps.{free_refusal, length_reserved, next, over_quota};
-ghost use Rattle.kd_pool.specs.Table.{in_phase, now_queued};
+ghost use Rattle.kd_pool.specs.State.{goes_before, has_number, is_earlier, is_freed, is_lower, is_pending, is_pending_of, is_readable, is_reserved, is_waiting, is_within};
+ghost use Rattle.kd_pool.specs.Steps.{free_refusal, length_reserved, next, of_lower_number, over_quota};
+ghost use Rattle.kd_pool.specs.Table.{arrivals, in_phase, now_queued};
 
 use crate::slot::{Phase, Slot};
 use kd_model::SliceNo;
@@ -34,7 +34,8 @@ fn is_pending_of(slot: &Slot, user: u32) -> bool
     matches!(slot.phase, Phase::Reserved | Phase::Queued | Phase::Peeked) && slot.user == Some(user)
 }
 
-fn is_waiting(slot: &Slot) -> bool
+/// Whether a message waits for its receiver in this slot.
+pub fn is_waiting(slot: &Slot) -> bool
     ensures { result ≡ is_waiting slot.now }
 {
     matches!(slot.phase, Phase::Queued | Phase::Peeked)
@@ -125,6 +126,30 @@ fn goes_before(slot: &Slot, other: &Slot) -> bool
         || (slot.priority == other.priority && slot.arrival < other.arrival)
 }
 
+/// The reserved slot of the lowest number.
+pub fn lowest_reserved(slots: &[Slot]) -> Option<Slot>
+    ensures { result ≡ least of_lower_number (those is_reserved slots.now) }
+{
+    let mut best = None;
+    'slots: for slot in slots {
+        best = lower_reserved(best, *slot);
+    }
+    best
+}
+
+/// The one of the lower number of the best so far and a slot, if that is reserved.
+fn lower_reserved(best: Option<Slot>, slot: Slot) -> Option<Slot>
+    ensures { result ≡ lesser of_lower_number best (least of_lower_number (those is_reserved (slot ∷ []))) }
+{
+    if !matches!(slot.phase, Phase::Reserved) {
+        return best;
+    }
+    match best {
+        Some(other) if !(slot.number.0 < other.number.0) => Some(other),
+        _ => Some(slot),
+    }
+}
+
 /// The slot of a number.
 pub fn find(slots: &[Slot], number: SliceNo) -> Option<Slot>
     ensures { result ≡ first (has_number number) slots.now }
@@ -198,6 +223,53 @@ pub fn take_out_freed(slots: &mut Vec<Slot>)
     ensures room { vec_capacity slots.new ≡ vec_capacity slots.old }
 {
     slots.retain(|slot| !is_freed(slot));
+}
+
+/// Takes all slots out that wait.
+pub fn take_out_waiting(slots: &mut Vec<Slot>)
+    ensures items { slots.new.items ≡ but_those is_waiting slots.old.items }
+    ensures room { vec_capacity slots.new ≡ vec_capacity slots.old }
+{
+    slots.retain(|slot| !is_waiting(slot));
+}
+
+/// Puts the slots that wait into an empty table, by rising arrival.
+pub fn put_waiting(rows: &mut Vec<Slot>, slots: &[Slot])
+    requires empty { rows.old.items ≡ [] }
+    requires room { length slots.now ≤ vec_capacity rows.old }
+    ensures items { rows.new.items ≡ arrivals slots.now }
+    ensures room { vec_capacity rows.old ≤ vec_capacity rows.new }
+{
+    'slots: for behind in 0..slots.len() {
+        put_if_waiting(rows, slots[slots.len() - 1 - behind]);
+    }
+}
+
+fn put_if_waiting(rows: &mut Vec<Slot>, slot: Slot)
+    requires room { vec_len rows.old < vec_capacity rows.old }
+    ensures items { rows.new.items ≡ (if is_waiting slot then put_in_order is_earlier slot rows.old.items else rows.old.items) }
+    ensures room { vec_capacity rows.old ≤ vec_capacity rows.new }
+{
+    if is_waiting(&slot) {
+        put_by_arrival(rows, slot);
+    }
+}
+
+/// Puts a slot in front of the first one that arrived after it.
+fn put_by_arrival(rows: &mut Vec<Slot>, new: Slot)
+    requires room { vec_len rows.old < vec_capacity rows.old }
+    ensures items { rows.new.items ≡ put_in_order is_earlier new rows.old.items }
+    ensures room { vec_capacity rows.old ≤ vec_capacity rows.new }
+{
+    let at = first_after(rows, new.arrival).unwrap_or(rows.len());
+    rows.insert(at, new).unwrap();
+}
+
+/// The place of the first slot that arrived after another one.
+fn first_after(rows: &[Slot], arrival: u64) -> Option<usize>
+    ensures { result ≡ position (λ s. nat_lt arrival s.arrival) rows.now }
+{
+    rows.iter().position(|slot| arrival < slot.arrival)
 }
 
 /// Whether a slice waits for the next sweep.

@@ -1,6 +1,6 @@
 //! Pools: where slices go, who is refused, what is received, and a thousand random turns against a slow pool.
 
-use kd_pool::{Pool, RecvMode};
+use kd_pool::{Drained, Pool, RecvMode};
 use kd_types::{ConnId, Refusal, SliceNo};
 use std::alloc::{AllocError, AllocFailed, Global};
 use std::test::Fail;
@@ -147,192 +147,75 @@ fn limits_peeks_and_drops_order_the_receives(rt: HostRuntime) -> Result<(), Fail
     Ok(())
 }
 
-#[derive(Clone, Copy, PartialEq, Eq)]
-enum Stage {
-    Reserved,
-    Queued,
-    Handed,
-    Freed,
-}
-
-#[derive(Clone, Copy)]
-struct Entry {
-    number: u32,
-    offset: u32,
-    len: u32,
-    user: u32,
-    stage: Stage,
-    arrival: u64,
-}
-
-/// A pool that looks at each eight bytes for each offer.
-#[derive(Drop)]
-struct SlowPool {
-    size: u32,
-    entries: Vec<Entry>,
-    arrivals: u64,
-}
-
-impl SlowPool {
-    fn is_taken(&self, at: u32) -> bool {
-        self.entries
-            .iter()
-            .any(|e| e.offset <= at && at < e.offset.saturating_add(e.len))
+/// A notice, whose length is a positive multiple of 8.
+fn post(pool: &mut Pool, image: &[u8]) -> Result<u32, Refusal> {
+    let is_long = image.is_empty() || image.len() % 8 != 0;
+    if is_long || pool.published() >= 1_000_000 || pool.dropped() >= 1_000_000 {
+        return Err(Refusal::BadFlags);
     }
-
-    fn is_over_quota(&self, user: u32, len: u32) -> bool {
-        let mut bytes = len;
-        let mut count = 1u32;
-        for e in &self.entries {
-            if e.user == user && (e.stage == Stage::Reserved || e.stage == Stage::Queued) {
-                bytes = bytes.saturating_add(e.len);
-                count = count.saturating_add(1);
-            }
-        }
-        self.size < bytes.saturating_mul(2) || 32 < count
-    }
-
-    /// The start of the shortest free run that holds the length, the lowest of these.
-    fn place(&self, len: u32) -> Option<u32> {
-        let mut best: Option<(u32, u32)> = None;
-        let mut run = 0u32;
-        for at in 0..self.size {
-            if self.is_taken(at) {
-                run = 0;
-                continue;
-            }
-            run = run.saturating_add(1);
-            let next = at.saturating_add(1);
-            let ends = next == self.size || self.is_taken(next);
-            if ends && len <= run {
-                let better = match best {
-                    None => true,
-                    Some((shortest, _)) => run < shortest,
-                };
-                if better {
-                    best = Some((run, next.saturating_sub(run)));
-                }
-            }
-        }
-        best.map(|(_, start)| start)
-    }
-
-    fn offer(&mut self, user: u32, len: u32) -> Result<Result<u32, Refusal>, AllocFailed<Entry>> {
-        self.entries.retain(|e| e.stage != Stage::Freed);
-        if self.is_over_quota(user, len) {
-            return Ok(Err(Refusal::Quota));
-        }
-        let unused = (0..256u32).find(|n| !self.entries.iter().any(|e| e.number == *n));
-        let Some(number) = unused else {
-            return Ok(Err(Refusal::SlicesSpent));
-        };
-        let Some(offset) = self.place(len) else {
-            return Ok(Err(Refusal::PoolFull));
-        };
-        self.entries.push(Entry {
-            number,
-            offset,
-            len,
-            user,
-            stage: Stage::Reserved,
-            arrival: 0,
-        })?;
-        Ok(Ok(number))
-    }
-
-    fn publish(&mut self, number: u32) -> Option<u32> {
-        for e in self.entries.iter_mut() {
-            if e.number == number && e.stage == Stage::Reserved {
-                self.arrivals = self.arrivals.saturating_add(1);
-                e.stage = Stage::Queued;
-                e.arrival = self.arrivals;
-                return Some(e.len);
-            }
-        }
-        None
-    }
-
-    fn receive(&mut self) -> Option<(u32, u32, u32)> {
-        let first = self
-            .entries
-            .iter()
-            .filter(|e| e.stage == Stage::Queued)
-            .map(|e| e.arrival)
-            .min()?;
-        for e in self.entries.iter_mut() {
-            if e.stage == Stage::Queued && e.arrival == first {
-                e.stage = Stage::Handed;
-                return Some((e.number, e.offset, e.len));
-            }
-        }
-        None
-    }
-
-    fn free(&mut self, number: u32) -> bool {
-        for e in self.entries.iter_mut() {
-            if e.number == number && e.stage == Stage::Handed {
-                e.stage = Stage::Freed;
-                return true;
-            }
-        }
-        false
-    }
+    Ok(pool.post(image)?.0)
 }
 
 #[test]
-fn a_thousand_turns_answer_as_a_slow_pool(rt: HostRuntime) -> Result<(), Fail> {
+fn a_notice_without_a_place_is_told_as_missed(rt: HostRuntime) -> Result<(), Fail> {
     let alloc = rt.alloc();
-    let mut pool = Pool::make(alloc, 1024)?;
-    let mut slow = SlowPool {
-        size: 1024,
-        entries: Vec::new(alloc),
-        arrivals: 0,
-    };
-    let mut state = 1u64;
-    let mut received = 0u32;
-    for _ in 0..1000u32 {
-        state = state
-            .wrapping_mul(6_364_136_223_846_793_005)
-            .wrapping_add(1_442_695_040_888_963_407);
-        let draw = state >> 33;
-        let number = ((draw >> 8) % 10) as u32;
-        match draw % 8 {
-            0 | 1 | 2 => {
-                let user = ((draw >> 3) % 3) as u32;
-                let len = 8 * (1 + ((draw >> 5) % 24) as u32);
-                assert_eq!(rt; offer(&mut pool, user, len), slow.offer(user, len)?);
-            }
-            3 | 4 => {
-                let byte = number as u8;
-                assert_eq!(rt;
-                    publish(alloc, &mut pool, number, byte, 0)?,
-                    slow.publish(number)
-                );
-            }
-            5 => match receive(&mut pool, PLAIN) {
-                Ok((number, offset, len, _)) => {
-                    received = received.saturating_add(1);
-                    assert_eq!(rt; slow.receive(), Some((number, offset, len)));
-                    let bytes = pool.read(alloc, SliceNo(number))?;
-                    assert!(rt;
-                        bytes.len() == len as usize
-                            && bytes.iter().all(|byte| u32::from(*byte) == number)
-                    );
-                }
-                Err(why) => {
-                    assert_eq!(rt; why, Refusal::NoMessage { dropped: 0 });
-                    assert_eq!(rt; slow.receive(), None);
-                }
-            },
-            _ => assert_eq!(rt; pool.free(SliceNo(number)).is_ok(), slow.free(number)),
-        }
-        assert_eq!(rt;
-            pool.waiting(),
-            slow.entries
-                .iter()
-                .any(|e| e.stage == Stage::Reserved || e.stage == Stage::Queued)
-        );
+    let mut pool = Pool::make(alloc, 256)?;
+    for number in 0..4u32 {
+        let image = [number as u8; 64];
+        assert_eq!(rt; post(&mut pool, &image), Ok(number));
     }
-    assert!(rt; received > 50);
+    assert_eq!(rt; post(&mut pool, &[9; 8]), Err(Refusal::PoolFull));
+    assert_eq!(rt; pool.dropped(), 1);
+    for number in 0..4u32 {
+        let missed = u64::from(number == 0);
+        assert_eq!(rt;
+            receive(&mut pool, PLAIN),
+            Ok((number, number * 64, 64, missed))
+        );
+        let bytes = pool.read(alloc, SliceNo(number))?;
+        assert!(rt; bytes.len() == 64 && bytes.iter().all(|byte| u32::from(*byte) == number));
+    }
+    assert_eq!(rt; pool.free(SliceNo(0)), Ok(()));
+    assert_eq!(rt; pool.free(SliceNo(2)), Ok(()));
+    assert_eq!(rt; pool.free(SliceNo(1)), Ok(()));
+    assert_eq!(rt; post(&mut pool, &[7; 192]), Ok(0));
+    assert_eq!(rt; receive(&mut pool, PLAIN), Ok((0, 0, 192, 0)));
+    Ok(())
+}
+
+/// A drain into an empty buffer for the pool's size.
+fn drain(pool: &mut Pool, into: &mut Drained) -> Result<(), Refusal> {
+    if into.size() != pool.size() as usize || !into.is_empty() {
+        return Err(Refusal::BadFlags);
+    }
+    pool.drain(into)
+}
+
+fn settle(pool: &mut Pool, from: &mut Drained) -> bool {
+    if pool.published() >= 1_000_000 || pool.dropped() >= 1_000_000 {
+        return false;
+    }
+    pool.settle(from);
+    true
+}
+
+#[test]
+fn a_drain_waits_for_the_senders(rt: HostRuntime) -> Result<(), Fail> {
+    let alloc = rt.alloc();
+    let mut pool = Pool::make(alloc, 256)?;
+    let mut buffer = Drained::make(alloc, 256)?;
+    assert_eq!(rt; offer(&mut pool, 7, 8), Ok(0));
+    assert_eq!(rt;
+        drain(&mut pool, &mut buffer),
+        Err(Refusal::Busy { slice: 0 })
+    );
+    assert!(rt; buffer.is_empty());
+    assert_eq!(rt; publish(alloc, &mut pool, 0, 1, 0)?, Some(8));
+    assert_eq!(rt; drain(&mut pool, &mut buffer), Ok(()));
+    assert!(rt; !pool.waiting());
+    let mut next = Pool::make(alloc, 256)?;
+    assert!(rt; settle(&mut next, &mut buffer));
+    assert!(rt; buffer.is_empty());
+    assert_eq!(rt; receive(&mut next, PLAIN), Ok((0, 0, 8, 0)));
     Ok(())
 }

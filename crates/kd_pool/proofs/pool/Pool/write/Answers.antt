@@ -11,7 +11,7 @@ use Rattle.kd_pool.specs.State.{Pool, has_number}
 use Rattle.kd_pool.specs.Steps.{reserved_length, written}
 use Rattle.kd_pool.specs.declared.slot.Slot.{Slot}
 use mir.Syntax.{w64}
-use Rattle.kd_pool.proofs.pool.Pool.publish.Goals as goal
+use Rattle.kd_pool.proofs.pool.Pool.write.Goals as goal
 
 missing : {n : ℕ} → (let o : Option ℕ = None in o) ≡ Some n → ⊥
 missing h = cc

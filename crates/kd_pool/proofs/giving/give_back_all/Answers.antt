@@ -5,7 +5,7 @@ use Rattle.kd_model.specs.Slices.{Book}
 use Rattle.kd_pool.proofs.Sweeps.{is_in_book, none_stay, swept_all, sweeps_on}
 use Rattle.kd_pool.specs.State.{placed_of}
 use Rattle.kd_pool.specs.declared.slot.Slot.{Slot}
-use Rattle.kd_pool.proofs.pool.give_back_all.Goals as goal
+use Rattle.kd_pool.proofs.giving.give_back_all.Goals as goal
 
 pub give_back-requires : goal.give_back-requires
 give_back-requires c = is_in_book (λ _. true) c.args.book.now.size c.args.slots.now c.slots.slot-index c.slot-item.result c.slots.book c.slots-test.true c.slot-item.is c.slots.invariant
