@@ -8,7 +8,7 @@
 //!
 //! A caller takes the desk with a command, visits the pools of the plan's parts, and leaves the desk; then it publishes what it
 //! offered. Receives, reads and frees go by the caller's own pool and hand, whoever holds the desk. `specs/` says which events are
-//! legal, and what each changes and answers.
+//! legal, and what each changes and answers; `laws` has what is proved of every list of them. No code runs events yet.
 #![tactic(auto)]
 
 mod laws;

@@ -16,7 +16,7 @@ use kd_types::{Moment, Seat};
 use std::alloc::{AllocError, Global};
 use std::marker::Model;
 
-/// The seats of a bus: so many connections with a pool it has at once.
+/// The seats of a bus: it has at most so many connections at once, and the next HELLO is refused.
 pub const SEATS: usize = 64;
 
 /// What a bus knows of its callers, seen as one record.
@@ -86,7 +86,7 @@ impl Desk {
         self.gone.iter().any(|gone| seat == *gone)
     }
 
-    /// Whether all seats are blocked.
+    /// Whether [`Desk::block`] has no room for one more.
     pub fn is_full(&self) -> bool
         ensures { result ≡ nat_le 64 (length self.now.blocked) }
     {
