@@ -9,3 +9,4 @@ pub mod ReplyLaws
 pub mod ReadAgain
 pub mod Rows
 pub mod RepliesAgain
+pub mod Formed

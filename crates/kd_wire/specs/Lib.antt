@@ -9,3 +9,4 @@ pub mod Reading
 pub mod Refusals
 pub mod ReplyReading
 pub mod Typed
+pub mod WellFormed

@@ -1,7 +1,9 @@
 //! What a caller asks of the bus.
 
-ghost use Rattle.std.specs.Prelude.{◌≡◌};
-ghost use Rattle.kd_wire.specs.Commands.{opcode_in, flags_of};
+ghost use Rattle.std.specs.Prelude.{◌≡◌, ◌^◌, ◌<◌, ◌≤◌, length};
+ghost use Rattle.kd_wire.specs.Opcodes.{word_count};
+ghost use Rattle.kd_wire.specs.Items.{spelled};
+ghost use Rattle.kd_wire.specs.Commands.{opcode_in, flags_of, words_of, items_of};
 
 use crate::item::WireItems;
 use crate::opcode::Opcode;
@@ -146,6 +148,74 @@ impl Command {
             Command::NameList { flags } => flags.word(),
             Command::MatchAdd { replace, .. } => u64::from(*replace),
             _ => 0,
+        }
+    }
+
+    /// Puts its own words into a place for so many. Those of a SEND begin with the size of its message, which is the
+    /// header and so many bytes of items.
+    pub(crate) fn put_own(&self, into: &mut [u64], items_length: usize)
+        requires room { length into.old ≡ word_count (opcode_in self.now) }
+        requires items { items_length ≡ length (spelled (items_of self.now)) }
+        requires bound { items_length < 2 ^ 63 }
+        ensures { into.new ≡ words_of self.now }
+    {
+        match self {
+            Command::Hello {
+                pool,
+                send_mask,
+                receive_mask,
+                ..
+            } => into.copy_from_slice(&[u64::from(*pool), *send_mask, *receive_mask]),
+            Command::Send {
+                flags,
+                priority,
+                dst,
+                source,
+                payload_type,
+                cookie,
+                last,
+                ..
+            } => {
+                let size = 64 + items_length as u64;
+                let priority = priority.cast_unsigned();
+                into.copy_from_slice(&[
+                    size,
+                    flags.word(),
+                    priority,
+                    *dst,
+                    *source,
+                    *payload_type,
+                    *cookie,
+                    *last,
+                ]);
+            }
+            Command::MakeBus { size, hashes, .. } => into.copy_from_slice(&[
+                u64::from(*size),
+                u64::from(*hashes),
+            ]),
+            Command::Enter { creds } => into.copy_from_slice(&[
+                u64::from(creds.uid),
+                u64::from(creds.gid),
+                u64::from(creds.privileged),
+            ]),
+            _ => self.put_one(into),
+        }
+    }
+
+    /// Puts the own word of a command that has no more than one.
+    fn put_one(&self, into: &mut [u64])
+        requires room { length into.old ≡ word_count (opcode_in self.now) }
+        requires few { word_count (opcode_in self.now) ≤ 1 }
+        ensures { into.new ≡ words_of self.now }
+    {
+        match self {
+            Command::Recv { limit, .. } => into.copy_from_slice(&[limit.cast_unsigned()]),
+            Command::Read { number, .. } | Command::Free { number } | Command::Unseal { number } =>
+                into.copy_from_slice(&[*number]),
+            Command::MatchAdd { cookie, .. } | Command::MatchRemove { cookie } =>
+                into.copy_from_slice(&[cookie.0]),
+            Command::Tick { moment } => into.copy_from_slice(&[moment.0]),
+            _ => {}
         }
     }
 }

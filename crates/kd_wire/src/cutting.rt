@@ -11,7 +11,7 @@ pub(crate) const HEAD: usize = 32;
 
 /// The greatest frame. It bounds what a reader of frames keeps while it waits for the end of one, and is twice the
 /// greatest message.
-const LIMIT: u64 = 131_072;
+pub(crate) const LIMIT: usize = 131_072;
 
 /// What the bytes begin with, judged by their size word.
 pub fn cut(bytes: &[u8]) -> Cut
@@ -21,7 +21,7 @@ pub fn cut(bytes: &[u8]) -> Cut
         return Cut::Need { total: 8 };
     }
     let size = word_at(bytes, 0);
-    if size < HEAD as u64 || LIMIT < size || size % 8 != 0 {
+    if size < HEAD as u64 || size > LIMIT as u64 || size % 8 != 0 {
         return Cut::Bad;
     }
     if (bytes.len() as u64) < size {

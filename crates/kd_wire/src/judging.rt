@@ -3,11 +3,11 @@
 ghost use Rattle.std.specs.Prelude.{◌≡◌, ◌*◌, ◌≤◌, length};
 ghost use Rattle.std.specs.List.{list_any};
 ghost use Rattle.kd_wire.specs.Opcodes.{word_count};
-ghost use Rattle.kd_wire.specs.Refusals.{own_words, has_double, lacks_one, begins_with_access, has_bare_name, has_empty_group, has_unknown_flag, is_two_kinds, is_pool_of, has_bad_word, is_bloom_size, is_hash_count, is_bad_access, flaw_of};
+ghost use Rattle.kd_wire.specs.Refusals.{own_words, has_double, lacks_one, begins_with_access, has_bare_name, has_empty_group, has_unknown_flag, is_two_kinds, is_pool_of, has_bad_word, is_bloom_size, is_hash_count, is_bad_access, flaw_of, words_from};
 
 use crate::item::WireItem;
 use crate::kinds::{ACCESS, NAME, how_many, is_one_of, kinds_of, needed_kinds, single_kinds};
-use crate::opcode::Opcode;
+use crate::opcode::{MOST_WORDS, Opcode};
 use kd_item::word_at;
 use kd_types::{HelloFlags, Refusal};
 
@@ -57,7 +57,7 @@ fn has_empty_group(kinds: &[u64], items: &[WireItem]) -> bool
 }
 
 /// Whether a flag isn't one of the command.
-fn has_unknown_flag(opcode: Opcode, flags: u64) -> bool
+pub(crate) fn has_unknown_flag(opcode: Opcode, flags: u64) -> bool
     ensures { result ≡ has_unknown_flag opcode flags }
 {
     match opcode {
@@ -90,25 +90,19 @@ fn is_pool_of(flags: u64, size: u64) -> bool
 
 /// Whether a choice or a size is outside its values. The masks of a HELLO have four bits, the flags of a message three;
 /// a Bloom filter has 8 to 512 bytes in words, and 1 to 8 hashes; a user and a group are numbers of 32 bits.
-fn has_bad_word(opcode: Opcode, flags: u64, own: &[u8]) -> bool
-    requires { 8 * word_count opcode ≤ length own.now }
-    ensures { result ≡ has_bad_word opcode flags (own_words opcode own.now) }
+pub(crate) fn has_bad_word(opcode: Opcode, flags: u64, own: &[u64]) -> bool
+    requires { length own.now ≡ word_count opcode }
+    ensures { result ≡ has_bad_word opcode flags own.now }
 {
     match opcode {
-        Opcode::Hello => {
-            is_two_kinds(flags)
-                || !is_pool_of(flags, word_at(own, 0))
-                || word_at(own, 8) > 15
-                || word_at(own, 16) > 15
-        }
-        Opcode::Send => word_at(own, 8) > 7,
+        Opcode::Hello => is_two_kinds(flags)
+            || !is_pool_of(flags, own[0])
+            || own[1] > 15
+            || own[2] > 15,
+        Opcode::Send => own[1] > 7,
         Opcode::Recv => flags & 3 == 3,
-        Opcode::MakeBus => !is_bloom_size(word_at(own, 0)) || !is_hash_count(word_at(own, 8)),
-        Opcode::Enter => {
-            word_at(own, 0) > 4_294_967_295
-                || word_at(own, 8) > 4_294_967_295
-                || word_at(own, 16) > 1
-        }
+        Opcode::MakeBus => !is_bloom_size(own[0]) || !is_hash_count(own[1]),
+        Opcode::Enter => own[0] > 4_294_967_295 || own[1] > 4_294_967_295 || own[2] > 1,
         _ => false,
     }
 }
@@ -150,9 +144,9 @@ fn has_bad_access(items: &[WireItem]) -> bool
 
 /// What is wrong with the values of a command: DoubledItem, MissingItem or BadFlags, the first in this order.
 #[tactic(auto, unfolding(crate::specs::Refusals::flaw_of))]
-pub(crate) fn flaw(opcode: Opcode, flags: u64, own: &[u8], items: &[WireItem]) -> Option<Refusal>
-    requires { 8 * word_count opcode ≤ length own.now }
-    ensures { result ≡ flaw_of opcode flags (own_words opcode own.now) items.now }
+pub(crate) fn flaw(opcode: Opcode, flags: u64, own: &[u64], items: &[WireItem]) -> Option<Refusal>
+    requires { length own.now ≡ word_count opcode }
+    ensures { result ≡ flaw_of opcode flags own.now items.now }
 {
     if has_double(single_kinds(opcode, flags), items) {
         return Some(Refusal::DoubledItem);
@@ -169,4 +163,30 @@ pub(crate) fn flaw(opcode: Opcode, flags: u64, own: &[u8], items: &[WireItem]) -
         return Some(Refusal::BadFlags);
     }
     None
+}
+
+/// Reads as many words as there is room for.
+fn read_words(into: &mut [u64], bytes: &[u8])
+    requires { 8 * length into.old ≤ length bytes.now }
+    ensures { into.new ≡ words_from (length into.old) 0 bytes.now }
+{
+    'words: for place in 0..into.len() {
+        into[place] = word_at(bytes, 8 * place);
+    }
+}
+
+/// What is wrong with the values of a command whose words are read from these bytes.
+pub(crate) fn flaw_read(
+    opcode: Opcode,
+    flags: u64,
+    bytes: &[u8],
+    items: &[WireItem],
+) -> Option<Refusal>
+    requires { 8 * word_count opcode ≤ length bytes.now }
+    ensures { result ≡ flaw_of opcode flags (own_words opcode bytes.now) items.now }
+{
+    let mut room = [0; MOST_WORDS];
+    let (own, _) = room.split_at_mut(opcode.words());
+    read_words(own, bytes);
+    flaw(opcode, flags, own, items)
 }

@@ -1,13 +1,11 @@
 //! The kinds of items, and which of them each command takes.
 
-ghost use Rattle.std.specs.Prelude.{◌≡◌, ◌*◌, ◌≤◌, length};
+ghost use Rattle.std.specs.Prelude.{◌≡◌, length};
 ghost use Rattle.kd_wire.specs.Kinds.{kinds_of, single_kinds, needed_kinds, is_one_of, how_many, ends_in_group};
 ghost use Rattle.kd_wire.specs.Opcodes.{word_count};
-ghost use Rattle.kd_wire.specs.Refusals.{own_words};
 
 use crate::item::WireItem;
 use crate::opcode::Opcode;
-use kd_item::word_at;
 use kd_types::HelloFlags;
 
 pub(crate) const PAYLOAD: u64 = 1;
@@ -99,9 +97,9 @@ pub(crate) fn single_kinds(opcode: Opcode, flags: u64) -> &'static [u64]
 
 /// The kinds of which a command needs one. A message to the id 0 goes to a name, and one to all ones goes to whom its
 /// filter fits.
-pub(crate) fn needed_kinds(opcode: Opcode, flags: u64, own: &[u8]) -> &'static [u64]
-    requires { 8 * word_count opcode ≤ length own.now }
-    ensures { result.now ≡ needed_kinds opcode flags (own_words opcode own.now) }
+pub(crate) fn needed_kinds(opcode: Opcode, flags: u64, own: &[u64]) -> &'static [u64]
+    requires { length own.now ≡ word_count opcode }
+    ensures { result.now ≡ needed_kinds opcode flags own.now }
 {
     match opcode {
         Opcode::Hello => {
@@ -112,7 +110,7 @@ pub(crate) fn needed_kinds(opcode: Opcode, flags: u64, own: &[u8]) -> &'static [
             }
         }
         Opcode::Send => {
-            let dst = word_at(own, 24);
+            let dst = own[3];
             if dst == 0 {
                 &[DST_NAME]
             } else if dst == u64::MAX {

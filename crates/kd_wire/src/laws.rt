@@ -1,13 +1,14 @@
 //! What holds of all frames: writing and reading undo each other, and a stream of frames is cut in one way. Nothing is
 //! run here; each function's contract is a law.
 
-ghost use Rattle.std.specs.Prelude.{◌≡◌, ℕ, ◌^◌, ◌<◌, true, List, [], ◌++◌, None, Ok};
+ghost use Rattle.std.specs.Prelude.{◌≡◌, ℕ, ◌^◌, ◌<◌, ◌↔◌, true, List, [], ◌++◌, None, Ok};
 ghost use Rattle.kd_wire.specs.declared.port.Port.{Port};
 ghost use Rattle.kd_wire.specs.declared.command.Command.{Command};
 ghost use Rattle.kd_wire.specs.Ports.{admits, runs};
 ghost use Rattle.kd_wire.specs.Commands.{opcode_in};
 ghost use Rattle.kd_wire.specs.Frames.{frame_of};
 ghost use Rattle.kd_wire.specs.Refusals.{refusal_of, IsWellFormed};
+ghost use Rattle.kd_wire.specs.WellFormed.{is_well_formed};
 ghost use Rattle.kd_wire.specs.declared.reply.Reply.{Reply};
 ghost use Rattle.kd_wire.specs.Replies.{Answers, reply_frame, reply_length};
 ghost use Rattle.kd_wire.specs.ReplyReading.{reply_in};
@@ -27,6 +28,11 @@ pub fn a_frame_has_one_value()
 /// No frame is the beginning of another.
 pub fn no_frame_begins_another()
     ensures { (caller other : ℕ) (command second : Command) (rest : List ℕ) → IsTyped command → IsTyped second → IsWellFormed command → IsWellFormed second → caller < 2 ^ 64 → other < 2 ^ 64 → frame_of caller command ++ rest ≡ frame_of other second → rest ≡ [] }
+{}
+
+/// The test of a command tells whether it is well formed, which [`crate::write_command`] requires.
+pub fn the_test_tells_well_formed_commands()
+    ensures { (command : Command) → (is_well_formed command ≡ true) ↔ IsWellFormed command }
 {}
 
 /// A reply that is written is read, as the same reply.

@@ -16,6 +16,7 @@
 
 mod command;
 mod cutting;
+mod forming;
 mod frame;
 mod item;
 mod judging;
@@ -36,7 +37,7 @@ pub use frame::{Cut, Head};
 pub use item::{WireItem, WireItems};
 pub use laws::{
     a_frame_has_one_value, a_written_reply_is_read, no_frame_begins_another,
-    what_is_written_is_read,
+    the_test_tells_well_formed_commands, what_is_written_is_read,
 };
 pub use opcode::Opcode;
 pub use port::Port;

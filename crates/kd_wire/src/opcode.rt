@@ -1,7 +1,10 @@
 //! The numbers of commands.
 
-ghost use Rattle.std.specs.Prelude.{◌≡◌, IfSome};
+ghost use Rattle.std.specs.Prelude.{◌≡◌, ◌≤◌, IfSome};
 ghost use Rattle.kd_wire.specs.Opcodes.{number_of, opcode_of, word_count};
+
+/// The greatest number of words that a command has of its own: those of a message.
+pub(crate) const MOST_WORDS: usize = 8;
 
 /// Which command a frame or a reply is of.
 #[derive(Clone, Copy, Debug, PartialEq, Eq)]
@@ -86,7 +89,8 @@ impl Opcode {
 
     /// How many words of its own a command has in its frame, behind the four that each frame begins with.
     pub(crate) fn words(self) -> usize
-        ensures { result ≡ word_count self }
+        ensures value { result ≡ word_count self }
+        ensures few { result ≤ 8 }
     {
         match self {
             Opcode::Send => 8,

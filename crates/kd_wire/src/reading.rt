@@ -1,20 +1,21 @@
 //! Reading commands.
 
-ghost use Rattle.std.specs.Prelude.{◌≡◌, ◌+◌, ◌*◌, ◌^◌, ◌<◌, ◌≤◌, true, [], ◌∷◌, length, map, drop, IfOk, IfErr, OnOk};
+ghost use Rattle.std.specs.Prelude.{◌≡◌, ◌+◌, ◌*◌, ◌^◌, ◌<◌, ◌≤◌, true, IsTrue, [], ◌∷◌, length, map, drop, IfOk, IfErr, OnOk};
 ghost use Rattle.std.specs.Int.{w64, cast_unsigned};
 ghost use Rattle.kd_item.specs.Spelling.{number};
 ghost use Rattle.kd_wire.specs.Ports.{admits, runs};
 ghost use Rattle.kd_wire.specs.Opcodes.{number_of, word_count};
 ghost use Rattle.kd_wire.specs.Items.{kind_of, spelled};
 ghost use Rattle.kd_wire.specs.Commands.{bit, opcode_in, flags_of, words_of, items_of};
-ghost use Rattle.kd_wire.specs.Frames.{cut_of, frame_of, command_word};
+ghost use Rattle.kd_wire.specs.Frames.{cut_of, frame_of, frame_length, command_word};
 ghost use Rattle.kd_wire.specs.Refusals.{words_from, own_words, has_broken_words, AreParts, IsWellFormed, refusal_in, refusal_of, IsWhy};
+ghost use Rattle.kd_wire.specs.WellFormed.{is_well_formed};
 
 use crate::command::Command;
 use crate::cutting::{HEAD, head};
 use crate::frame::Cut;
 use crate::item::{WireItem, WireItems};
-use crate::judging::flaw;
+use crate::judging::flaw_read;
 use crate::kinds::kinds_of;
 use crate::opcode::Opcode;
 use crate::port::Port;
@@ -233,7 +234,7 @@ fn read_as(
         frame.split_at(start).1,
     )?;
     let own = frame.split_at(HEAD).1;
-    if let Some(refusal) = flaw(opcode, flags, own, &items) {
+    if let Some(refusal) = flaw_read(opcode, flags, own, &items) {
         return Err(refusal);
     }
     Ok((caller, command_of(opcode, flags, own, items)))
@@ -247,6 +248,8 @@ pub fn read_command(alloc: Global, frame: &[u8], port: Port) -> Result<(u64, Com
     ensures caller { IfOk result (λ r. admits port r.0 ≡ true) }
     ensures command { IfOk result (λ r. runs port (opcode_in r.1) ≡ true) }
     ensures well_formed { IfOk result (λ r. IsWellFormed r.1) }
+    ensures judged { IfOk result (λ r. IsTrue (is_well_formed r.1)) }
+    ensures size { IfOk result (λ r. frame_length r.1 ≡ length frame.now) }
     ensures accepted { OnOk result (refusal_of port frame.now ≡ None) }
     ensures refused { IfErr result (λ r. IsWhy r (refusal_of port frame.now)) }
 {

@@ -152,7 +152,7 @@ fn read_change(alloc: Global, kind: u64, body: &[u8]) -> Result<Option<WireItem>
 
 /// Whether an item of this kind may stand behind those before it: the command takes the kind, an ACCESS belongs to a
 /// group, and there are no more than sixteen PAYLOADs.
-fn may_follow(kinds: &[u64], before: &[WireItem], kind: u64) -> bool
+pub(crate) fn may_follow(kinds: &[u64], before: &[WireItem], kind: u64) -> bool
     ensures { result ≡ may_follow kinds.now before.now kind }
 {
     if !is_one_of(kinds, kind) {

@@ -10,6 +10,7 @@ ghost use Rattle.kd_wire.specs.Refusals.{IsWellFormed};
 use crate::command::Command;
 use crate::cutting::HEAD;
 use crate::item::WireItem;
+use crate::opcode::MOST_WORDS;
 use kd_item::{padding, put_entry, put_words};
 use std::alloc::AllocError;
 
@@ -116,8 +117,7 @@ fn put_items_of(out: &mut Vec<u8>, command: &Command)
     }
 }
 
-/// Adds the command's own words, for which there is room. Those of a SEND begin with the size of its message, which is
-/// the header and so many bytes of items.
+/// Adds the command's own words, for which there is room.
 fn put_own_words(out: &mut Vec<u8>, command: &Command, items_length: usize)
     requires items { items_length ≡ length (spelled (items_of command.now)) }
     requires bound { items_length < 2 ^ 63 }
@@ -126,65 +126,10 @@ fn put_own_words(out: &mut Vec<u8>, command: &Command, items_length: usize)
     ensures len { vec_len out.new ≡ vec_len out.old + 8 * length (words_of command.now) }
     ensures room { vec_capacity out.old ≤ vec_capacity out.new }
 {
-    match command {
-        Command::Hello {
-            pool,
-            send_mask,
-            receive_mask,
-            ..
-        } => {
-            put_words(out, &[u64::from(*pool), *send_mask, *receive_mask]);
-        }
-        Command::Send {
-            flags,
-            priority,
-            dst,
-            source,
-            payload_type,
-            cookie,
-            last,
-            ..
-        } => {
-            let size = 64 + items_length as u64;
-            let priority = priority.cast_unsigned();
-            put_words(
-                out,
-                &[
-                    size,
-                    flags.word(),
-                    priority,
-                    *dst,
-                    *source,
-                    *payload_type,
-                    *cookie,
-                    *last,
-                ],
-            );
-        }
-        Command::Recv { limit, .. } => put_words(out, &[limit.cast_unsigned()]),
-        Command::Read { number, .. } | Command::Free { number } | Command::Unseal { number } =>
-            put_words(out, &[*number]),
-        Command::MatchAdd { cookie, .. } | Command::MatchRemove { cookie } => put_words(
-            out,
-            &[cookie.0],
-        ),
-        Command::MakeBus { size, hashes, .. } => put_words(
-            out,
-            &[u64::from(*size), u64::from(*hashes)],
-        ),
-        Command::Tick { moment } => put_words(out, &[moment.0]),
-        Command::Enter { creds } => {
-            put_words(
-                out,
-                &[
-                    u64::from(creds.uid),
-                    u64::from(creds.gid),
-                    u64::from(creds.privileged),
-                ],
-            );
-        }
-        _ => {}
-    }
+    let mut room = [0; MOST_WORDS];
+    let (own, _) = room.split_at_mut(command.opcode().words());
+    command.put_own(own, items_length);
+    put_words(out, own);
 }
 
 /// Appends the frame of a command from this caller.

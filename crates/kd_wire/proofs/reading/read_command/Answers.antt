@@ -3,6 +3,7 @@ use Rattle.kd_types.specs.declared.refusal.Refusal.TheVariants.{Unsupported}
 use Rattle.kd_wire.specs.Ports.{runs}
 use Rattle.kd_wire.specs.Opcodes.{opcode_of}
 use Rattle.kd_wire.proofs.Accepted.{no_opcode, not_run, is_run}
+use Rattle.kd_wire.proofs.Formed.{judged, length_read, of_answer}
 use Rattle.kd_wire.proofs.reading.read_command.Goals as goal
 
 pub returns-in_default-clause-refused : goal.returns-in_default-clause-refused
@@ -23,3 +24,9 @@ pub returns-clause-refused : goal.returns-clause-refused
 returns-clause-refused c =
     let runs-here : runs c.args.port c.in-Some.opcode ≡ true = search rules in
     rw (is_run c.args.port c.in-Some.opcode c.args.frame.now (c.in-Some.ensures.value ∙ ap opcode_of c.head-command.ensures.command) runs-here) c.read_as.ensures.refused
+
+pub returns-clause-judged : goal.returns-clause-judged
+returns-clause-judged c = of_answer c.read_as.result (λ r w. judged r.1 w) c.read_as.ensures.well_formed
+
+pub returns-clause-size : goal.returns-clause-size
+returns-clause-size c = of_answer c.read_as.result (λ r e. length_read c.args.frame.now r.0 r.1 e) c.read_as.ensures.spelled
