@@ -5,7 +5,7 @@ use Rattle.std.proofs.Common.{ap, ◌∙◌}
 use Rattle.kd_model.specs.Words.{put_in_order}
 use Rattle.kd_pool.specs.State.{Answer, Pool, Slice, bytes_of, has_number, is_lower, is_readable, is_reserved, refused, slots}
 use Rattle.kd_pool.specs.Sound.{range_of}
-use Rattle.kd_types.specs.declared.refusal.Refusal.TheVariants.{NoSuchSlice}
+use Rattle.kd_types.specs.declared.refusal.Refusal.TheVariants.{NoSuchSeal, NoSuchSlice}
 use Rattle.kd_pool.specs.Steps.{length_reserved, read_answer, reserved_length, set_phase, share_answer}
 use Rattle.kd_pool.specs.Table.{in_phase, shown}
 use Rattle.kd_pool.specs.declared.slot.Phase.{Phase}
@@ -47,6 +47,19 @@ read_seen m p ss n o e f =
     told o = elim o [ None ↦ refused NoSuchSlice | Some s ↦ elim false [ true ↦ share_answer s.shared | false ↦ bytes_of s.bytes ] ]
 
     seen : (o : Option Slot) → told (option_map (shown m) o) ≡ elim o [ None ↦ refused NoSuchSlice | Some s ↦ bytes_of (range_of m s) ]
+    seen None = refl
+    seen (Some s) = refl
+
+-- no slot has a share
+pub share_seen : (m : List ℕ) (p : Pool) (ss : List Slot) (n : ℕ) (o : Option Slot) → p.slices ≡ map (shown m) ss → find (λ s. has_number n s && is_readable s) ss ≡ o → read_answer n true p ≡ refused (elim o [ None ↦ NoSuchSlice | Some s ↦ NoSuchSeal ])
+unfolding read_answer
+share_seen m p ss n o e f =
+    ap told (ap (find (λ (s : Slice). has_number n s.slot && is_readable s.slot)) e ∙ find_shown m (λ (s : Slice). has_number n s.slot && is_readable s.slot) ss ∙ ap (option_map (shown m)) f) ∙ seen o
+  where
+    told : Option Slice → Answer
+    told o = elim o [ None ↦ refused NoSuchSlice | Some s ↦ elim true [ true ↦ share_answer s.shared | false ↦ bytes_of s.bytes ] ]
+
+    seen : (o : Option Slot) → told (option_map (shown m) o) ≡ refused (elim o [ None ↦ NoSuchSlice | Some s ↦ NoSuchSeal ])
     seen None = refl
     seen (Some s) = refl
 

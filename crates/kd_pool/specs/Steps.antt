@@ -211,13 +211,21 @@ visit_step p (settle images) = (settled images (swept p), done)
 visit_step p (raise size) = (p, done)
 visit_step p (close force) = (p, done)
 
+-- the slice of the number is reserved for as many bytes as the content has
+abbrev pub is_reserved_for : ℕ → Content → Pool → Bool
+is_reserved_for n c p = elim (reserved_length n p) [ None ↦ false | Some len ↦ len == length c.image ]
+
+-- what was received is freed, and nothing else
+abbrev pub without_handed : ℕ → Pool → Pool
+without_handed n p = elim (free_refusal n (slots p)) [ None ↦ with_phase Freed n p | Some why ↦ p ]
+
 -- an act on an open pool of a generation
 unfoldable pub open_step : ℕ → Pool → Act → Pool × Answer
 open_step g p (by_desk v) = visit_step p v
-open_step g p (publish generation n content) = elim (generation == g && some_of (has_number n) (slots p)) [ false ↦ (p, gone) | true ↦ (filled n content p, placed) ]
+open_step g p (publish generation n content) = elim (generation == g && is_reserved_for n content p) [ false ↦ (p, gone) | true ↦ (filled n content p, placed) ]
 open_step g p (receive mode) = receive_step mode p
 open_step g p (read n sealed) = (p, read_answer n sealed p)
-open_step g p (free n) = (with_phase Freed n p, freed)
+open_step g p (free n) = (without_handed n p, freed)
 open_step g p idle = (p, done)
 
 -- an act on a closed pool changes nothing

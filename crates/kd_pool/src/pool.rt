@@ -1,6 +1,6 @@
 //! The pool and its calls.
 
-ghost use Rattle.std.specs.Prelude.{if◌then◌else◌, [], ◌∷◌, ◌≡◌, ◌≢◌, ◌<◌, ◌≤◌, ◌%◌, ◌+◌, ◌-◌, ◌++◌, ◌^◌, false, IfErr, IfOk, IsTrue, None, OnErr, OnOk, Some, length, map, vec_capacity};
+ghost use Rattle.std.specs.Prelude.{if◌then◌else◌, [], ◌∷◌, ◌≡◌, ◌≢◌, ◌<◌, ◌≤◌, ◌%◌, ◌+◌, ◌-◌, ◌++◌, ◌^◌, false, true, IfErr, IfOk, IsTrue, None, OnErr, OnOk, Some, length, map, vec_capacity};
 ghost use Rattle.std.specs.List.{AllByRecursion};
 ghost use Rattle.kd_model.specs.declared.slice_no.TheConstants.{SLICES};
 ghost use Rattle.kd_model.specs.Slices.{IsSound, is_placed, used, without};
@@ -276,6 +276,17 @@ impl Pool {
             return Err(Refusal::NoSuchSlice);
         };
         Ok(memory::copy(alloc, &self.memory, slot.offset as usize, slot.len as usize)?)
+    }
+
+    /// Why the share of sealed bytes of a slice can't be read: `NoSuchSeal`, since no slice has one yet, and
+    /// `NoSuchSlice` for a number that its receiver wasn't told.
+    pub fn why_no_share(&self, number: SliceNo) -> Refusal
+        ensures { read_answer number true self.now ≡ refused result }
+    {
+        match table::find_readable(&self.slots, number) {
+            Some(_) => Refusal::NoSuchSeal,
+            None => Refusal::NoSuchSlice,
+        }
     }
 
     /// Gives a received slice back; its range is free from the next sweep on. `NotReceived` where it was
