@@ -53,9 +53,13 @@ is_asker (reply_timeout asker cookie) c = has_id asker c
 is_asker (reply_dead asker cookie) c = has_id asker c
 is_asker _ c = false
 
--- all live monitors and whoever is shown it, by rising seat
+-- all live monitors are told, and whoever is shown it
+abbrev pub is_told : Desk → Subject → Conn → Bool
+is_told d s c = is_monitor c.kind || is_asker s c || (is_ordinary c.kind && is_shown d s c)
+
+-- by rising seat
 unfoldable pub audience : Desk → Subject → List Conn
-audience d s = those (λ (c : Conn). is_monitor c.kind || is_asker s c || (is_ordinary c.kind && is_shown d s c)) d.conns
+audience d s = those (is_told d s) d.conns
 
 -- the notice of a name's new owner
 abbrev pub owner_notice : Change → Notice

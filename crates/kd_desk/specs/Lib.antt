@@ -10,3 +10,11 @@ pub mod Naming
 pub mod Asking
 pub mod Step
 pub mod Room
+pub mod Drafts
+pub mod Runs
+pub mod Outs
+pub mod Owners
+pub mod Listing
+pub mod News
+pub mod Arriving
+pub mod Sending

@@ -45,19 +45,20 @@ handover d c None = []
 handover d c (Some a) = record { seat = seat_of d a; act = drain } ∷ record { seat = c.seat; act = settle [] } ∷ []
 
 -- and so do the requests that it was to answer
-abbrev pub requests_handed : List Request → Conn → Option ℕ → List Request
-requests_handed qs c None = qs
-requests_handed qs c (Some a) = map (renamed a c.id) qs
+abbrev pub requests_handed : List Request → ℕ → Option ℕ → List Request
+requests_handed qs id None = qs
+requests_handed qs id (Some a) = map (renamed a id) qs
 
-unfoldable pub with_claim : Desk → Conn → NameFlags → List ℕ → Verdict → Desk
-with_claim d c flags n v = record d {
-  registry = acquired d.registry (claim_of c.id n flags) (Ok v);
-  requests = requests_handed d.requests c (activator_in v);
+-- the desk after an acquire by the connection of this id
+unfoldable pub with_claim : Desk → ℕ → NameFlags → List ℕ → Verdict → Desk
+with_claim d id flags n v = record d {
+  registry = acquired d.registry (claim_of id n flags) (Ok v);
+  requests = requests_handed d.requests id (activator_in v);
 }
 
 abbrev pub acquire_plan : Desk → Conn → NameFlags → List ℕ → Verdict → Plan
 acquire_plan d c flags n v =
-    let after : Desk = with_claim d c flags n v in
+    let after : Desk = with_claim d c.id flags n v in
     record {
       parts = handover d c (activator_in v) ++ notices after (owner_change d.registry after.registry n);
       reply = reply.NameAcquire (is_queued v);
@@ -81,8 +82,9 @@ name_acquire d c flags n =
 abbrev pub has_claim : Desk → ℕ → List ℕ → Bool
 has_claim d id n = some_of (is_of id) (ranks d.registry n)
 
-unfoldable pub without_claim : Desk → Conn → List ℕ → Desk
-without_claim d c n = record d { registry = released d.registry c.id n }
+-- the desk after a release by the connection of this id
+unfoldable pub without_claim : Desk → ℕ → List ℕ → Desk
+without_claim d id n = record d { registry = released d.registry id n }
 
 unfoldable pub release_refusals : Desk → Conn → List ℕ → List (Bool × Refusal)
 release_refusals d c n =
@@ -93,7 +95,7 @@ release_refusals d c n =
 
 unfoldable pub name_release : Desk → Conn → List ℕ → Result Plan Refusal
 name_release d c n =
-    let after : Desk = without_claim d c n in
+    let after : Desk = without_claim d c.id n in
     unless (release_refusals d c n) (announced c reply.NameRelease after (owner_change d.registry after.registry n))
 
 -- ---- listing

@@ -1,5 +1,7 @@
--- What contracts see of a desk, and what its tables have room for.
-use Rattle.std.specs.Prelude.{◌≡◌, ◌≤◌, vec_capacity}
+-- What contracts see of a desk, what its tables have room for, and where its connections sit.
+use Rattle.std.specs.Prelude.{◌≡◌, ◌≤◌, ◌<◌, vec_capacity}
+use Rattle.std.specs.List.{AllByRecursion}
+use Rattle.kd_desk.specs.declared.conn.Conn.{Conn}
 use Rattle.kd_desk.specs.declared.desk.Desk.TheInside.{Inside}
 use Rattle.kd_desk.specs.State.{Desk}
 
@@ -20,7 +22,12 @@ desk_of d = record {
   moment = d.moment;
 }
 
+-- a connection has one of 64 seats
+abbrev pub IsSeated : Conn → Type 0
+IsSeated c = c.seat < 64
+
 pub record HasRoom (d : Inside) : Type 0 where
   pub size : d.param.size ≡ d.matches.size
   pub conns : 64 ≤ vec_capacity d.conns
   pub gone : 64 ≤ vec_capacity d.gone
+  pub seats : AllByRecursion IsSeated d.conns.items

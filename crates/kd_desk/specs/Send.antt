@@ -1,12 +1,10 @@
 -- Where a message goes: the refusals in their order, the parts, and the requests after it.
-use Rattle.std.specs.Prelude.{ℕ, Bool, true, false, not, ◌&&◌, ◌||◌, List, [], ◌∷◌, ◌++◌, map, length, Option, Some, None, is_some, is_none, nat_le, nat_lt, ◌==◌, option_map, option_and_then, ℤ}
-use Rattle.kd_types.specs.declared.flags.SendFlags.{SendFlags}
+use Rattle.std.specs.Prelude.{ℕ, Bool, true, false, not, ◌&&◌, ◌||◌, List, [], ◌∷◌, ◌++◌, map, length, Option, Some, None, is_some, is_none, nat_le, nat_lt, ◌==◌, option_map, option_and_then}
 use Rattle.kd_types.specs.declared.refusal.Refusal.{Refusal}
 use Rattle.kd_types.specs.declared.refusal.Refusal.TheVariants.{BadCookie, BroadcastMisuse, BloomSize, TooLong, NoSuchSeal, BadName, NoSuchName, NameMoved, NotStarted, NoSuchConnection, NotPermitted, TooMany}
 use Rattle.kd_types.specs.Flags.{has_bits}
 use Rattle.kd_model.specs.Words.{those, but_those, first, some_of}
 use Rattle.kd_name.specs.Names.{is_name}
-use Rattle.kd_wire.specs.declared.item.WireItem.{WireItem}
 use Rattle.kd_registry.specs.Claims.{owner, owner_id}
 use Rattle.kd_registry.specs.Changes.{names_of}
 use Rattle.kd_seal.specs.Book.{shared}
@@ -18,6 +16,7 @@ use Rattle.kd_image.specs.Images.{image, image_length}
 use Rattle.kd_image.specs.Said.{nothing_attached}
 use Rattle.kd_pool.specs.State.{Content, Visit, offer}
 use Rattle.kd_desk.specs.declared.conn.Conn.{Conn}
+use Rattle.kd_desk.specs.declared.sent.Sent.{Sent}
 use Rattle.kd_desk.specs.State.{Desk, conn_of, monitors, has_id, is_ordinary, is_activator}
 use Rattle.kd_desk.specs.Rights.{may_see, may_see_name, may_talk}
 use Rattle.kd_desk.specs.Items.{any, Filter, Named, destination_name, payloads, filter_in, sealed_in}
@@ -27,16 +26,6 @@ use Rattle.kd_desk.specs.Audience.{broadcast, audience}
 pub record Part : Type 0 where
   pub seat : ℕ
   pub act : Visit
-
--- a message as its sender hands it in
-pub record Sent : Type 0 where
-  pub flags : SendFlags
-  pub priority : ℤ
-  pub dst : ℕ
-  pub payload_type : ℕ
-  pub cookie : ℕ
-  pub last : ℕ
-  pub items : List WireItem
 
 -- the sender waits for a reply
 abbrev pub expects : Sent → Bool

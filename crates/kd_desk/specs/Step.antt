@@ -16,7 +16,8 @@ use Rattle.kd_desk.specs.declared.who.Who.{Who}
 use Rattle.kd_desk.specs.declared.who.WhoKind.{WhoKind}
 use Rattle.kd_desk.specs.declared.who.WhoKind.TheVariants as who
 use Rattle.kd_desk.specs.State.{Desk, conn_of}
-use Rattle.kd_desk.specs.Send.{Part, Sent, send_refusals, send_parts, requests_after}
+use Rattle.kd_desk.specs.declared.sent.Sent.{Sent}
+use Rattle.kd_desk.specs.Send.{Part, send_refusals, send_parts, requests_after}
 use Rattle.kd_desk.specs.Plans.{Plan, unless, itself}
 use Rattle.kd_desk.specs.Hello.{hello}
 use Rattle.kd_desk.specs.Leaving.{byebye, close_conn, close_endpoint, unblocked, known}

@@ -8,15 +8,35 @@
 //!        +--- plan ---> refusal, or a plan ---- each part gets its answer ---- finish
 //! ```
 //!
-//! Today the code makes a desk, tells and blocks its seats, and asks the four rights. What a plan is stands in `specs/`, command by
-//! command, over the definitions of the crates below: claims, policy, labels, rules, seals, requests and images.
+//! What a plan is stands in `specs/`, command by command, over the definitions of the crates below: claims, policy, labels, rules,
+//! seals, requests and images. The code plans the commands of `Runs`: HELLO of an ordinary connection on the default endpoint, SEND to
+//! one receiver without an expected reply, BYEBYE, CLOSE, ENTER, and the three on names; every other is refused as `Unsupported`.
+//! A planner is a file of its own: `hello`, `sending`, `leaving`, `naming`, `listing`; `finishing` makes the change of a plan.
 #![tactic(auto)]
 
+mod attaching;
+mod change;
 mod conn;
+mod content;
 mod desk;
+mod finishing;
+mod hello;
+mod leaving;
+mod listing;
+mod naming;
+mod notices;
+mod offers;
+mod part;
+mod plan;
+mod planning;
 mod rights;
+mod sending;
+mod sent;
 mod who;
 
 pub use conn::Conn;
+pub use content::Content;
 pub use desk::{Desk, SEATS};
+pub use part::{Out, Part};
+pub use plan::Plan;
 pub use who::{Who, WhoKind};

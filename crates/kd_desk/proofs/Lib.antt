@@ -1,0 +1,15 @@
+pub mod Forms
+pub mod Ending
+pub mod Gone
+pub mod Telling
+pub mod Leaves
+pub mod Visits
+pub mod Seats
+pub mod Arrivals
+pub mod Refused
+pub mod Owning
+pub mod NamePlans
+pub mod Listed
+pub mod Offering
+pub mod Sorted
+pub mod Planned

@@ -1,0 +1,31 @@
+use Rattle.std.proofs.Common.{◌≡◌, ◌<◌, ap, sym, subst, ◌∙◌, [], length, ℕ, false}
+use Rattle.std.specs.Prelude.{is_some}
+use Rattle.kd_registry.specs.Claims.{owner_id}
+use Rattle.kd_desk.specs.State.{Desk}
+use Rattle.kd_desk.specs.Naming.{activator_in}
+use Rattle.kd_desk.specs.Drafts.{parts_with}
+use Rattle.kd_desk.specs.Owners.{moved, owner_by}
+use Rattle.kd_desk.specs.Plans.{notices}
+use Rattle.kd_desk.specs.Runs.{acquire_answered}
+use Rattle.kd_desk.proofs.Refused.{refused_with}
+use Rattle.kd_desk.proofs.NamePlans.{acquire_fits, acquire_over, acquire_planned, acquire_refused}
+use Rattle.kd_desk.proofs.desk.Desk.plan_acquire.Goals as goal
+
+pub returns-in_err-verdict : goal.returns-in_err-verdict
+returns-in_err-verdict c = refused_with c.args.self.now (acquire_answered c.args.self.now c.args.conn.now c.args.flags c.args.name) c.from_residual.result c.in_err-verdict.field-0.0 c.from_residual.ensures.1 (acquire_refused c.args.self.now c.args.conn.now c.args.flags c.args.name c.in_err-verdict.field-0.0 c.in_err-verdict.ensures)
+
+pub returns-then-has_activator : goal.returns-then-has_activator
+returns-then-has_activator c = acquire_over c.args.self.now c.args.conn.now c.args.flags c.args.name c.in_ok-verdict.verdict c.in_ok-verdict.ensures (sym c.has_activator.ensures ∙ c.if-has_activator.true)
+
+pub returns : goal.returns
+returns c =
+    let d = c.args.self.now in
+    let n = c.args.name in
+    let v = c.in_ok-verdict.verdict in
+    let none : is_some (activator_in v) ≡ false = sym c.has_activator.ensures ∙ c.if-has_activator.false in
+    let told : parts_with [] c.in_ok-parts.parts.items ≡ notices d (moved (owner_id d.registry n) (owner_by v c.args.conn.now.id (owner_id d.registry n)) n) = c.in_ok-parts.ensures.posts ∙ ap (λ (new : ℕ). notices c.args.self.now (moved c.owner_id-old.result new c.args.name)) c.owner_by-new.ensures ∙ ap (λ (old : ℕ). notices c.args.self.now (moved old (owner_by c.in_ok-verdict.verdict c.args.conn.now.id old) c.args.name)) c.owner_id-old.ensures in
+    let room : length d.registry < 4160 = subst (λ (e : Desk). length e.registry < 4160) c.self.view_is (c.has_room.ensures.0 c.if-not-has_room.false) in (
+      rw (c.new.ensures.items, c.is_queued.ensures) (acquire_planned d c.args.conn.now c.args.flags n v c.in_ok-parts.parts.items c.in_ok-verdict.ensures none told),
+      acquire_fits d c.args.conn.now c.args.flags n v c.in_ok-verdict.ensures room,
+      c.in_ok-parts.ensures.visitable,
+    )

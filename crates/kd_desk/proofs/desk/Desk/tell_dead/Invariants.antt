@@ -1,0 +1,10 @@
+use Rattle.std.proofs.Common.{◌≡◌, [], ◌∷◌, ◌++◌, map, take}
+use Rattle.kd_replies.specs.declared.request.Request.{Request}
+use Rattle.kd_desk.specs.Audience.{reply_dead}
+use Rattle.kd_desk.specs.Drafts.{parts_with}
+use Rattle.kd_desk.specs.Leaving.{without_conns}
+use Rattle.kd_desk.specs.Plans.{notices}
+use Rattle.kd_desk.proofs.desk.Desk.tell_dead.Given as goal
+
+abbrev pub invariant-dead : goal.invariant-dead
+invariant-dead l = parts_with [] l.parts.items ≡ parts_with [] l.initial.parts.items ++ notices (without_conns l.self (l.leaver ∷ [])) (map (λ (q : Request). reply_dead q.asker q.cookie) (take l.request-index l.request-items))

@@ -1,0 +1,103 @@
+-- The plans of the code, beside those of the definitions.
+use Rattle.std.specs.Prelude.{◌≡◌, ◌<◌, ◌+◌, ◌-◌, ◌^◌, ◌%◌, ℕ, List, [], ◌∷◌, length, map, Option, None, Result, Ok, Err, get_or, set, unwrap_or, pos}
+use Rattle.std.specs.List.{AllByRecursion}
+use Rattle.kd_types.specs.declared.refusal.Refusal.{Refusal}
+use Rattle.kd_model.specs.Words.{but_those, put_in_order}
+use Rattle.kd_wire.specs.declared.reply.Reply.{Reply}
+use Rattle.kd_registry.specs.Claims.{asked, release_answer}
+use Rattle.kd_replies.specs.Requests.{waits}
+use Rattle.kd_pool.specs.State.{Content, raise, close, offer, post, drain, settle}
+use Rattle.kd_desk.specs.declared.who.WhoKind.{WhoKind}
+use Rattle.kd_desk.specs.declared.part.Part as code
+use Rattle.kd_desk.specs.declared.part.Part.TheVariants as part
+use Rattle.kd_desk.specs.declared.change.Change.{Change}
+use Rattle.kd_desk.specs.declared.change.Change.TheVariants as change
+use Rattle.kd_desk.specs.State.{Desk}
+use Rattle.kd_desk.specs.Send.{Part}
+use Rattle.kd_desk.specs.Plans.{Plan}
+use Rattle.kd_desk.specs.Hello.{sits_before}
+use Rattle.kd_desk.specs.Leaving.{without_conns, unblocked}
+use Rattle.kd_desk.specs.Naming.{with_claim, without_claim}
+
+-- a plan as the code holds it; the contents of its offers stand by the place of their parts, until they are taken
+pub record Draft : Type 0 where
+  pub parts : List code.Part
+  pub contents : List (Option Content)
+  pub reply : Reply
+  pub change : Change
+  pub after : WhoKind
+
+-- the content at a place
+abbrev pub content_at : ℕ → List (Option Content) → Option Content
+content_at n cs = get_or cs n None
+
+unfoldable pub without_content : ℕ → Draft → Draft
+without_content n p = record p { contents = set p.contents n None }
+
+-- where an offer's content was taken
+abbrev pub nothing : Content
+nothing = record { image = []; shared = None; priority = pos 0 }
+
+-- a part of the code, with the content of its offer
+abbrev pub part_with : Option Content → code.Part → Part
+part_with c (part.Raise seat size) = record { seat = seat; act = raise size }
+part_with c (part.Close seat force) = record { seat = seat; act = close force }
+part_with c (part.Offer seat user len from must) = record { seat = seat; act = offer user len from must (unwrap_or c nothing) }
+part_with c (part.Post seat image) = record { seat = seat; act = post image }
+part_with c (part.Drain seat size) = record { seat = seat; act = drain }
+part_with c (part.Settle seat) = record { seat = seat; act = settle [] }
+
+-- the seat whose pool is visited
+abbrev pub seat_in : code.Part → ℕ
+seat_in (part.Raise seat size) = seat
+seat_in (part.Close seat force) = seat
+seat_in (part.Offer seat user len from must) = seat
+seat_in (part.Post seat image) = seat
+seat_in (part.Drain seat size) = seat
+seat_in (part.Settle seat) = seat
+
+-- parts without offers need no contents
+abbrev pub parts_with : List (Option Content) → List code.Part → List Part
+parts_with [] ps = map (part_with None) ps
+parts_with (c ∷ cs) [] = []
+parts_with (c ∷ cs) (p ∷ ps) = part_with c p ∷ parts_with cs ps
+
+-- the desk after a change
+unfoldable pub applied : Change → Desk → Desk
+applied change.Nothing d = d
+applied (change.Arrives c) d = record d { conns = put_in_order sits_before c d.conns; next_id = d.next_id + 1 }
+applied (change.Leaves id) d = without_conns d (id ∷ [])
+applied (change.Unblocks seat) d = unblocked seat d
+applied (change.Answers asker cookie) d = record d { requests = but_those (waits asker cookie) d.requests }
+applied (change.Acquires id flags n verdict) d = with_claim d id flags n verdict
+applied (change.Releases id n) d = without_claim d id n
+
+-- a plan of the code, on the desk that it was made for
+unfoldable pub drafted : Desk → Draft → Plan
+drafted d p = record { parts = parts_with p.contents p.parts; reply = p.reply; next = applied p.change d; becomes = p.after }
+
+-- the desk can make the change without memory
+unfoldable pub Fits : Desk → Change → Type 0
+Fits d (change.Arrives c) = (length d.conns < 64) × (c.seat < 64) × (d.next_id < 2 ^ 64 - 1)
+Fits d (change.Acquires id flags n verdict) = (asked d.registry id n flags ≡ Ok verdict) × (length d.registry < 4160)
+Fits d (change.Releases id n) = (owner : ℕ) × (release_answer d.registry id n ≡ Ok owner)
+Fits d _ = Unit {0}
+
+-- the length of a slice
+abbrev pub IsLength : ℕ → Type 0
+IsLength n = (0 < n) × (n % 8 ≡ 0)
+
+-- what a pool can take: its seat is one of 64, and lengths are whole words; so far nothing is drained
+unfoldable pub IsVisitable : code.Part → Type 0
+IsVisitable (part.Raise seat size) = (seat < 64) × (size % 8 ≡ 0)
+IsVisitable (part.Close seat force) = seat < 64
+IsVisitable (part.Offer seat user len from must) = (seat < 64) × IsLength len
+IsVisitable (part.Post seat image) = (seat < 64) × IsLength (length image)
+IsVisitable (part.Drain seat size) = ⊥
+IsVisitable (part.Settle seat) = ⊥
+
+-- what the code plans is what is asked for, and it refuses just what is refused; but memory may be wanting
+abbrev pub Answers : Desk → Result Plan Refusal → Result Draft Refusal → Type 0
+Answers d wanted (Ok p) = (wanted ≡ Ok (drafted d p)) × Fits d p.change × AllByRecursion IsVisitable p.parts
+Answers d wanted (Err Refusal.OutOfMemory) = Unit {0}
+Answers d wanted (Err e) = wanted ≡ Err e

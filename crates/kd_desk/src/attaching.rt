@@ -1,0 +1,96 @@
+//! What a receiver is told of a sender.
+
+ghost use Rattle.std.specs.Prelude.{◌≡◌, IfOk};
+ghost use Rattle.kd_model.specs.Words.{those};
+ghost use Rattle.kd_registry.specs.Changes.{names_of};
+ghost use Rattle.kd_desk.specs.Rights.{may_see_name};
+ghost use Rattle.kd_desk.specs.Send.{attached, is_attached, when};
+
+use crate::conn::Conn;
+use crate::desk::Desk;
+use kd_image::Attached;
+use kd_types::{Text, TextList};
+use std::alloc::{AllocError, Global};
+
+/// The kinds of metadata, as bits of the masks of connections.
+const CREDS: u64 = 1;
+
+const NAMES: u64 = 2;
+
+const DESCRIPTION: u64 = 4;
+
+const MOMENT: u64 = 8;
+
+/// Whether both ends asked for this kind of metadata.
+fn is_attached(sender: &Conn, receiver: &Conn, kind: u64) -> bool
+    ensures { result ≡ is_attached sender.now receiver.now kind }
+{
+    sender.send_mask & kind == kind && receiver.receive_mask & kind == kind
+}
+
+/// The sender's description, where it is attached.
+fn description_for(
+    alloc: Global,
+    sender: &Conn,
+    receiver: &Conn,
+) -> Result<Option<Text>, AllocError>
+    ensures { IfOk result (λ text. text ≡ when (is_attached sender.now receiver.now 4) sender.now.description) }
+{
+    if !is_attached(sender, receiver, DESCRIPTION) {
+        return Ok(None);
+    }
+    match &sender.description {
+        Some(text) => Ok(Some(Text::of(alloc, text.bytes())?)),
+        None => Ok(None),
+    }
+}
+
+impl Desk {
+    /// The names of the sender that the receiver may see.
+    fn names_for(
+        &self,
+        alloc: Global,
+        sender: &Conn,
+        receiver: &Conn,
+    ) -> Result<Vec<Text>, AllocError>
+        ensures { IfOk result (λ names. names.items ≡ those (may_see_name self.now receiver.now) (names_of self.now.registry sender.now.id)) }
+    {
+        let mut names = self.registry.names_of(alloc, sender.id)?;
+        names.retain(|name| self.may_see_name(receiver, name));
+        Ok(names)
+    }
+
+    /// What the receiver is told of the sender, as far as both ends asked for it.
+    #[tactic(auto, unfolding(crate::specs::Send::attached))]
+    pub(crate) fn attached(
+        &self,
+        alloc: Global,
+        sender: &Conn,
+        receiver: &Conn,
+    ) -> Result<Attached, AllocError>
+        ensures { IfOk result (λ a. a ≡ attached self.now sender.now receiver.now) }
+    {
+        let creds = if is_attached(sender, receiver, CREDS) {
+            Some(sender.creds)
+        } else {
+            None
+        };
+        let names = if is_attached(sender, receiver, NAMES) {
+            self.names_for(alloc, sender, receiver)?
+        } else {
+            Vec::new(alloc)
+        };
+        let description = description_for(alloc, sender, receiver)?;
+        let moment = if is_attached(sender, receiver, MOMENT) {
+            Some(self.moment)
+        } else {
+            None
+        };
+        Ok(Attached {
+            creds,
+            names: TextList::of(names),
+            description,
+            moment,
+        })
+    }
+}

@@ -1,0 +1,34 @@
+//! What a command changes on the desk.
+
+use crate::conn::Conn;
+use kd_registry::Verdict;
+use kd_types::{ConnId, Cookie, NameFlags, Seat, Text};
+
+/// The change that a plan holds ready, with all memory that it needs.
+#[derive(Debug, Drop)]
+pub(crate) enum Change {
+    Nothing,
+    /// An ordinary connection comes.
+    Arrives(Conn),
+    /// A connection leaves, and all that it has goes.
+    Leaves(ConnId),
+    /// The caller of a connection that others closed knows it, and its seat is free again.
+    Unblocks(Seat),
+    /// The reply to a request was placed.
+    Answers {
+        asker: ConnId,
+        cookie: Cookie,
+    },
+    /// A claim on a name; the verdict is the registry's.
+    Acquires {
+        id: ConnId,
+        flags: NameFlags,
+        name: Text,
+        verdict: Verdict,
+    },
+    /// The connection's claim on the name goes.
+    Releases {
+        id: ConnId,
+        name: Text,
+    },
+}

@@ -1,0 +1,176 @@
+//! Ending a plan: by what the pools answered, its change is made or isn't.
+
+ghost use Rattle.std.specs.Prelude.{◌≡◌, ◌==◌, ◌≤◌, ◌<◌, ◌^◌, ◌-◌, ℕ, [], ◌∷◌, length, nat_lt, position, vec_capacity, vec_len, Ok};
+ghost use Rattle.kd_model.specs.Words.{but_those, put_in_order};
+ghost use Rattle.kd_registry.specs.Claims.{asked, release_answer};
+ghost use Rattle.kd_desk.specs.Drafts.{Fits, applied};
+ghost use Rattle.kd_desk.specs.Hello.{sits_before};
+ghost use Rattle.kd_desk.specs.Leaving.{unblocked, without_conns};
+ghost use Rattle.kd_desk.specs.Naming.{with_claim, without_claim};
+ghost use Rattle.kd_desk.specs.Outs.{ended_on, is_needed, stops};
+
+use crate::change::Change;
+use crate::conn::Conn;
+use crate::desk::Desk;
+use crate::part::{Out, Part};
+use crate::plan::Plan;
+use kd_policy::Owner;
+use kd_registry::Verdict;
+use kd_types::{ConnId, NameFlags, Refusal, Seat, Text};
+use kd_wire::Reply;
+
+/// Whether a refusal of the part, as the first, ends the command.
+fn is_needed(part: &Part) -> bool
+    ensures { result ≡ is_needed part.now }
+{
+    match part {
+        Part::Drain { .. } => true,
+        Part::Close { force, .. } => !*force,
+        Part::Offer { must, .. } => *must,
+        Part::Raise { .. } | Part::Post { .. } | Part::Settle { .. } => false,
+    }
+}
+
+/// Why the command ends without its change: its first part had to be done and was refused.
+pub(crate) fn stops(parts: &[Part], outs: &[Out]) -> Option<Refusal>
+    ensures { result ≡ stops parts.now outs.now }
+{
+    let [part, ..] = parts else {
+        return None;
+    };
+    let [Out::Refused(why), ..] = outs else {
+        return None;
+    };
+    if is_needed(part) { Some(*why) } else { None }
+}
+
+/// The place of the first connection on a higher seat.
+fn first_behind(conns: &[Conn], seat: Seat) -> Option<usize>
+    ensures { result ≡ position (λ (c : Conn). nat_lt seat c.seat) conns.now }
+{
+    conns.iter().position(|conn| seat < conn.seat)
+}
+
+/// Puts a connection between those on lower seats and those on higher ones.
+fn seat_conn(conns: &mut Vec<Conn>, conn: Conn)
+    requires room { vec_len conns.old < vec_capacity conns.old }
+    ensures put { conns.new.items ≡ put_in_order sits_before conn conns.old.items }
+    ensures room { vec_capacity conns.old ≤ vec_capacity conns.new }
+{
+    let place = first_behind(conns, conn.seat).unwrap_or(conns.len());
+    conns.insert(place, conn).unwrap();
+}
+
+/// Takes a connection out.
+fn remove_conn(conns: &mut Vec<Conn>, id: ConnId)
+    ensures others { conns.new.items ≡ but_those (λ (c : Conn). c.id == id) conns.old.items }
+    ensures room { vec_capacity conns.old ≤ vec_capacity conns.new }
+{
+    conns.retain(|conn| !(conn.id == id));
+}
+
+/// Takes a seat out.
+fn remove_seat(seats: &mut Vec<Seat>, seat: Seat)
+    ensures others { seats.new.items ≡ but_those (λ s. s == seat) seats.old.items }
+    ensures room { vec_capacity seats.old ≤ vec_capacity seats.new }
+{
+    seats.retain(|other| !(*other == seat));
+}
+
+impl Desk {
+    /// Ends a plan that was made for the desk as it is, by what the pools answered to its visits. Where the first visit had to be done
+    /// and was refused the desk stays as it is; else the plan's change is made. It takes no memory.
+    #[tactic(auto, using(crate::proofs::Ending::ends_where_it_stops), unfolding(crate::specs::Outs::ended_on, crate::specs::Drafts::drafted))]
+    pub fn finish(&mut self, plan: Plan, outs: &[Out]) -> Reply
+        requires fits { Fits self.old plan.change }
+        ensures reply { result ≡ (ended_on self.old plan outs.now).reply }
+        ensures after { self.new ≡ (ended_on self.old plan outs.now).next }
+    {
+        match stops(&plan.parts, outs) {
+            Some(why) => Reply::Refused(why),
+            None => {
+                self.apply(plan.change);
+                plan.reply
+            }
+        }
+    }
+
+    /// Makes a change that fits.
+    #[tactic(auto, unfolding(crate::specs::Drafts::applied, crate::specs::Drafts::Fits))]
+    fn apply(&mut self, change: Change)
+        requires fits { Fits self.old change }
+        ensures { self.new ≡ applied change self.old }
+    {
+        match change {
+            Change::Nothing => (),
+            Change::Arrives(conn) => self.arrive(conn),
+            Change::Leaves(id) => self.leave(id),
+            Change::Unblocks(seat) => self.unblock(seat),
+            Change::Answers { asker, cookie } => self.replies.answer(asker, cookie),
+            Change::Acquires {
+                id,
+                flags,
+                name,
+                verdict,
+            } => self.acquire(id, flags, name, verdict),
+            Change::Releases { id, name } => self.release(id, &name),
+        }
+    }
+
+    /// A connection comes.
+    #[tactic(auto, unfolding(crate::specs::Drafts::applied))]
+    fn arrive(&mut self, conn: Conn)
+        requires room { length self.old.conns < 64 }
+        requires seat { conn.seat < 64 }
+        requires ids { self.old.next_id < 2 ^ 64 - 1 }
+        ensures { self.new ≡ applied (Change.Arrives conn) self.old }
+    {
+        seat_conn(&mut self.conns, conn);
+        self.next_id += 1;
+    }
+
+    /// A connection leaves, and all that it has goes.
+    fn leave(&mut self, id: ConnId)
+        ensures { self.new ≡ without_conns self.old (id ∷ []) }
+    {
+        remove_conn(&mut self.conns, id);
+        self.policy.drop_owner(Owner::Conn(id));
+        self.registry.drop_conn(id);
+        self.matches.drop_conn(id);
+        self.seals.drop_conn(id);
+        self.replies.drop_conn(id);
+    }
+
+    /// The seat is free again.
+    fn unblock(&mut self, seat: Seat)
+        ensures { self.new ≡ unblocked seat self.old }
+    {
+        remove_seat(&mut self.gone, seat);
+    }
+
+    /// A connection claims a name, and takes over the requests that an activator was to answer.
+    #[tactic(auto, unfolding(crate::specs::Naming::with_claim))]
+    fn acquire(&mut self, id: ConnId, flags: NameFlags, name: Text, verdict: Verdict)
+        requires answer { asked self.old.registry id name flags ≡ Ok verdict }
+        requires room { length self.old.registry < 4160 }
+        ensures { self.new ≡ with_claim self.old id flags name verdict }
+    {
+        self.registry.acquire(id, name, flags).unwrap();
+        if let Verdict::Owner {
+            activator: Some(old),
+            ..
+        } = verdict
+        {
+            self.replies.rename(old, id);
+        }
+    }
+
+    /// A connection gives up its claim on a name.
+    #[tactic(auto, unfolding(crate::specs::Naming::without_claim))]
+    fn release(&mut self, id: ConnId, name: &Text)
+        requires answer { (owner : ℕ) × (release_answer self.old.registry id name.now ≡ Ok owner) }
+        ensures { self.new ≡ without_claim self.old id name.now }
+    {
+        self.registry.release(id, name.bytes()).unwrap();
+    }
+}

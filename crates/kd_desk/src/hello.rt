@@ -1,0 +1,93 @@
+//! HELLO: what it comes to when a caller becomes a connection.
+
+ghost use Rattle.std.specs.Prelude.{◌≡◌, ◌<◌, ◌^◌, ◌%◌, ℕ, [], not, ◌&&◌};
+ghost use Rattle.kd_desk.specs.Arriving.{asked_plainly, plain_conn};
+ghost use Rattle.kd_desk.specs.Drafts.{Answers};
+ghost use Rattle.kd_desk.specs.Hello.{free_seat, hello, is_free};
+
+use crate::change::Change;
+use crate::conn::Conn;
+use crate::desk::{Desk, SEATS};
+use crate::notices::News;
+use crate::part::Part;
+use crate::plan::Plan;
+use crate::who::WhoKind;
+use kd_match::Change as Owning;
+use kd_types::{ConnId, Creds, Kind, Refusal, Seat};
+use kd_wire::Reply;
+use std::alloc::Global;
+
+impl Desk {
+    /// Whether nobody has the seat, and it doesn't wait for its own caller.
+    fn is_free(&self, seat: Seat) -> bool
+        ensures { result ≡ is_free self.now seat }
+    {
+        !self.occupied(seat) && !self.blocked(seat)
+    }
+
+    /// The lowest free seat.
+    fn free_seat(&self) -> Option<Seat>
+        ensures { result ≡ free_seat self.now }
+    {
+        'seats: for number in 0..64 {
+            if self.is_free(Seat(number)) {
+                return Some(Seat(number));
+            }
+        }
+        None
+    }
+
+    /// A caller becomes an ordinary connection on the default endpoint, without metadata, with a pool of so many bytes: on the lowest free
+    /// seat, and the others are told. It is refused where no seat is free. Where the desk had no room for one more connection, which can't
+    /// come about, memory is wanting. What a notice may borrow is named, though this one borrows none of it: the borrow checker asks for it.
+    pub(crate) fn plan_hello(
+        &self,
+        alloc: Global,
+        creds: &Creds,
+        size: u32,
+    ) -> Result<Plan, Refusal>
+        requires eights { size % 8 ≡ 0 }
+        requires ids { self.now.next_id < 2 ^ 63 }
+        ensures { Answers self.now (hello self.now creds.now (asked_plainly size)) result }
+    {
+        let _owning: Option<&Owning> = None;
+        let Some(seat) = self.free_seat() else {
+            return Err(Refusal::TooMany { limit: 64 });
+        };
+        if SEATS <= self.conns.len() {
+            return Err(Refusal::OutOfMemory);
+        }
+        let id = ConnId(self.next_id);
+        let mut parts = Vec::new(alloc);
+        parts.push(Part::Raise { seat, size })?;
+        self.tell(alloc, &mut parts, &News::Came(id), None)?;
+        Ok(Plan {
+            parts,
+            contents: Vec::new(alloc),
+            reply: Reply::Hello {
+                id,
+                size: u64::from(self.param.size),
+                hashes: u64::from(self.param.hashes),
+            },
+            change: Change::Arrives(newcomer(id, seat, creds, size)),
+            after: WhoKind::Conn { id, seat },
+        })
+    }
+}
+
+/// An ordinary connection on the default endpoint, without metadata.
+fn newcomer(id: ConnId, seat: Seat, creds: &Creds, size: u32) -> Conn
+    ensures { result ≡ plain_conn id seat creds.now size }
+{
+    Conn {
+        id,
+        seat,
+        creds: *creds,
+        endpoint: 0,
+        kind: Kind::Ordinary,
+        size,
+        send_mask: 0,
+        receive_mask: 0,
+        description: None,
+    }
+}

@@ -1,0 +1,184 @@
+//! Names: acquiring and releasing them.
+
+ghost use Rattle.std.specs.Prelude.{◌≡◌, [], IfOk, Ok, is_some};
+ghost use Rattle.std.specs.List.{AllByRecursion};
+ghost use Rattle.kd_registry.specs.Claims.{owner_id, release_answer};
+ghost use Rattle.kd_desk.specs.Drafts.{Answers, IsVisitable, parts_with};
+ghost use Rattle.kd_desk.specs.Naming.{activator_in, is_queued, name_release};
+ghost use Rattle.kd_desk.specs.Owners.{acquire_judged, hidden, moved, owner_by, release_judged};
+ghost use Rattle.kd_desk.specs.Plans.{notices};
+ghost use Rattle.kd_desk.specs.Runs.{acquire_answered};
+
+use crate::change::Change;
+use crate::conn::Conn;
+use crate::desk::Desk;
+use crate::part::Part;
+use crate::plan::Plan;
+use crate::who::WhoKind;
+use kd_name::is_name;
+use kd_registry::Verdict;
+use kd_types::{ConnId, NameFlags, Refusal, Text};
+use kd_wire::Reply;
+use std::alloc::{AllocError, Global};
+
+/// Whether the connection waits in the queue.
+fn is_queued(verdict: Verdict) -> bool
+    ensures { result ≡ is_queued verdict }
+{
+    matches!(verdict, Verdict::Queued)
+}
+
+/// Whether an activator's place is taken.
+pub(crate) fn has_activator(verdict: Verdict) -> bool
+    ensures { result ≡ is_some (activator_in verdict) }
+{
+    match verdict {
+        Verdict::Owner { activator, .. } => activator.is_some(),
+        Verdict::Queued => false,
+    }
+}
+
+/// Who owns the name after an acquire.
+fn owner_by(verdict: &Verdict, conn: &Conn, before: ConnId) -> ConnId
+    ensures { result ≡ owner_by verdict.now conn.now.id before }
+{
+    match verdict {
+        Verdict::Owner { .. } => conn.id,
+        Verdict::Queued => before,
+    }
+}
+
+/// The refusal of a release: who may not see a name isn't told that others own it.
+fn hidden(refusal: Refusal, sees: bool) -> Refusal
+    ensures { result ≡ hidden refusal sees }
+{
+    match refusal {
+        Refusal::NotOwner if !sees => Refusal::NoSuchName,
+        _ => refusal,
+    }
+}
+
+impl Desk {
+    /// Who owns the name; 0 for nobody.
+    pub(crate) fn owner_id(&self, name: &Text) -> ConnId
+        ensures { result ≡ owner_id self.now.registry name.now }
+    {
+        match self.registry.owner(name.bytes()) {
+            Some((id, _)) => id,
+            None => ConnId(0),
+        }
+    }
+
+    /// The posts of the notice of a name's new owner, where it isn't the old one.
+    fn moved_posts(
+        &self,
+        alloc: Global,
+        name: &Text,
+        old: ConnId,
+        new: ConnId,
+    ) -> Result<Vec<Part>, AllocError>
+        ensures posts { IfOk result (λ parts. parts_with [] parts.items ≡ notices self.now (moved old new name.now)) }
+        ensures visitable { IfOk result (λ parts. AllByRecursion IsVisitable parts.items) }
+    {
+        if old == new {
+            return Ok(Vec::new(alloc));
+        }
+        let name = Text::of(alloc, name.bytes())?;
+        self.owner_posts(alloc, &kd_match::Change { name, old, new })
+    }
+
+    /// What the registry answers a connection that asks for a name, where it may own it.
+    #[tactic(auto, unfolding(crate::specs::Owners::acquire_judged))]
+    pub(crate) fn judge_acquire(
+        &self,
+        conn: &Conn,
+        flags: NameFlags,
+        name: &Text,
+    ) -> Result<Verdict, Refusal>
+        ensures { result ≡ acquire_judged self.now conn.now flags name.now }
+    {
+        if !is_name(name.bytes()) {
+            return Err(Refusal::BadName);
+        }
+        if !self.may_own(conn, name) {
+            return Err(Refusal::NotPermitted);
+        }
+        self.registry.ask(conn.id, name.bytes(), flags)
+    }
+
+    /// Who owns the name when the connection has released it.
+    fn judge_release(&self, conn: &Conn, name: &Text) -> Result<ConnId, Refusal>
+        ensures judged { result ≡ release_judged self.now conn.now name.now }
+        ensures answer { IfOk result (λ owner. release_answer self.now.registry conn.now.id name.now ≡ Ok owner) }
+    {
+        match self.registry.may_release(conn.id, name.bytes()) {
+            Ok(owner) => Ok(owner),
+            Err(refusal) => Err(hidden(refusal, self.may_see_name(conn, name))),
+        }
+    }
+
+    /// What it comes to that the connection asks for the name: it owns it or waits in the queue, and if it is the new owner, all are told
+    /// that may see it. A name that an activator owns isn't taken over so far.
+    pub(crate) fn plan_acquire(
+        &self,
+        alloc: Global,
+        conn: &Conn,
+        flags: NameFlags,
+        name: Text,
+    ) -> Result<Plan, Refusal>
+        ensures { Answers self.now (acquire_answered self.now conn.now flags name) result }
+    {
+        let verdict = self.judge_acquire(conn, flags, &name)?;
+        if has_activator(verdict) {
+            return Err(Refusal::Unsupported { cmd: 8 });
+        }
+        if !self.registry.has_room() {
+            return Err(Refusal::OutOfMemory);
+        }
+        let old = self.owner_id(&name);
+        let new = owner_by(&verdict, conn, old);
+        let parts = self.moved_posts(alloc, &name, old, new)?;
+        Ok(Plan {
+            parts,
+            contents: Vec::new(alloc),
+            reply: Reply::NameAcquire {
+                queued: is_queued(verdict),
+            },
+            change: Change::Acquires {
+                id: conn.id,
+                flags,
+                name,
+                verdict,
+            },
+            after: WhoKind::Conn {
+                id: conn.id,
+                seat: conn.seat,
+            },
+        })
+    }
+
+    /// What it comes to that the connection gives up its claim on the name: if it was the owner, all are told of the next one that may see
+    /// the name.
+    pub(crate) fn plan_release(
+        &self,
+        alloc: Global,
+        conn: &Conn,
+        name: Text,
+    ) -> Result<Plan, Refusal>
+        ensures { Answers self.now (name_release self.now conn.now name) result }
+    {
+        let new = self.judge_release(conn, &name)?;
+        let old = self.owner_id(&name);
+        let parts = self.moved_posts(alloc, &name, old, new)?;
+        Ok(Plan {
+            parts,
+            contents: Vec::new(alloc),
+            reply: Reply::NameRelease,
+            change: Change::Releases { id: conn.id, name },
+            after: WhoKind::Conn {
+                id: conn.id,
+                seat: conn.seat,
+            },
+        })
+    }
+}

@@ -1,0 +1,194 @@
+//! Notices: whom each is told to.
+
+ghost use Rattle.std.specs.Prelude.{◌≡◌, ◌==◌, ◌&&◌, ◌++◌, [], IfOk, OnOk};
+ghost use Rattle.std.specs.List.{AllByRecursion};
+ghost use Rattle.kd_image.specs.Images.{notice_image};
+ghost use Rattle.kd_desk.specs.Audience.{asks_for, is_asker, is_shown, is_told, new_owner, owner_notice, sees_ids, told_of};
+ghost use Rattle.kd_desk.specs.Drafts.{IsVisitable, parts_with};
+ghost use Rattle.kd_desk.specs.News.{change_in, is_leaver, still_told, subject_of, telling_of, without_leaver};
+ghost use Rattle.kd_desk.specs.Plans.{posts};
+
+use crate::conn::Conn;
+use crate::desk::Desk;
+use crate::part::Part;
+use kd_bloom::Bits;
+use kd_image::{Notice, build_notice};
+use kd_match::{Change, Subject};
+use kd_types::{Blob, ConnId, Cookie, Kind, Text};
+use std::alloc::{AllocError, Global};
+
+/// What the bus tells by itself.
+#[derive(Clone, Copy, Debug)]
+pub(crate) enum News<'a> {
+    /// A connection came.
+    Came(ConnId),
+    /// A connection left.
+    Left(ConnId),
+    /// A name has another owner.
+    Owner(&'a Change),
+    /// Who was to reply to the request is gone.
+    Dead { asker: ConnId, cookie: Cookie },
+}
+
+/// The notice of a name's new owner.
+fn notice_of(alloc: Global, change: &Change) -> Result<Notice, AllocError>
+    ensures { IfOk result (λ n. n ≡ owner_notice (change_in change.now)) }
+{
+    let name = Text::of(alloc, change.name.bytes())?;
+    let (old, new) = (change.old, change.new);
+    Ok(if old.0 == 0 {
+        Notice::NameAdd { old, new, name }
+    } else if new.0 == 0 {
+        Notice::NameRemove { old, new, name }
+    } else {
+        Notice::NameChange { old, new, name }
+    })
+}
+
+/// The image of a notice.
+fn image_of(alloc: Global, news: &News) -> Result<Vec<u8>, AllocError>
+    ensures { IfOk result (λ v. v.items ≡ notice_image (telling_of news.now).notice (telling_of news.now).dst) }
+{
+    match news {
+        News::Came(id) => build_notice(alloc, &Notice::IdAdd { id: *id }, 0),
+        News::Left(id) => build_notice(alloc, &Notice::IdRemove { id: *id }, 0),
+        News::Owner(change) => build_notice(alloc, &notice_of(alloc, change)?, 0),
+        News::Dead { asker, cookie } => {
+            build_notice(alloc, &Notice::ReplyDead { cookie: *cookie }, asker.0)
+        }
+    }
+}
+
+/// Whether the notice of an id is for the connection, if it asks for it.
+fn sees_ids(conn: &Conn, id: ConnId) -> bool
+    ensures { result ≡ sees_ids conn.now id }
+{
+    conn.endpoint == 0 && !(conn.id == id)
+}
+
+/// Whether the connection asked what the notice is about.
+fn is_asker(conn: &Conn, news: &News) -> bool
+    ensures { result ≡ is_asker (subject_of news.now) conn.now }
+{
+    match news {
+        News::Dead { asker, .. } => conn.id == *asker,
+        News::Came(_) | News::Left(_) | News::Owner(_) => false,
+    }
+}
+
+/// Whether the connection leaves.
+fn is_leaver(conn: &Conn, leaver: Option<ConnId>) -> bool
+    ensures { result ≡ is_leaver leaver conn.now }
+{
+    match leaver {
+        Some(id) => conn.id == id,
+        None => false,
+    }
+}
+
+impl Desk {
+    /// Whether a rule of the connection admits the notice of a name's new owner. What a subject of a rule may borrow is named, though
+    /// a notice borrows none of it: the borrow checker asks for it.
+    fn asks_for(&self, conn: &Conn, change: &Change) -> bool
+        ensures { result ≡ asks_for self.now conn.now (told_of (change_in change.now)) }
+    {
+        let _filter: Option<&Bits> = None;
+        let subject = if change.old.0 == 0 {
+            Subject::NameAdd { change }
+        } else if change.new.0 == 0 {
+            Subject::NameRemove { change }
+        } else {
+            Subject::NameChange { change }
+        };
+        self.matches.admits(conn.id, &subject)
+    }
+
+    /// Whether an ordinary connection is shown the notice.
+    #[tactic(auto, unfolding(crate::specs::Audience::is_shown))]
+    fn is_shown(&self, conn: &Conn, news: &News) -> bool
+        ensures { result ≡ is_shown self.now (subject_of news.now) conn.now }
+    {
+        let _filter: Option<&Bits> = None;
+        match news {
+            News::Came(id) => {
+                sees_ids(conn, *id) && self.matches.admits(conn.id, &Subject::IdAdd { id: *id })
+            }
+            News::Left(id) => {
+                sees_ids(conn, *id) && self.matches.admits(conn.id, &Subject::IdRemove { id: *id })
+            }
+            News::Owner(change) => self.may_see_name(conn, &change.name)
+                && self.asks_for(conn, change),
+            News::Dead { .. } => false,
+        }
+    }
+
+    /// Whether the connection is told: a monitor is, whoever asked what it is about, and an ordinary connection that is shown it.
+    fn is_told(&self, conn: &Conn, news: &News) -> bool
+        ensures { result ≡ is_told self.now (subject_of news.now) conn.now }
+    {
+        match conn.kind {
+            Kind::Monitor => true,
+            Kind::Ordinary => is_asker(conn, news) || self.is_shown(conn, news),
+            Kind::Activator | Kind::Holder => is_asker(conn, news),
+        }
+    }
+
+    /// Whether the connection stays, and is told.
+    fn is_still_told(&self, conn: &Conn, news: &News, leaver: Option<ConnId>) -> bool
+        ensures { result ≡ still_told leaver self.now (subject_of news.now) conn.now }
+    {
+        !is_leaver(conn, leaver) && self.is_told(conn, news)
+    }
+
+    /// The posts of a notice by the desk without the connection that leaves, if one does; by rising seat.
+    #[tactic(auto, using(crate::proofs::Telling::posts_without))]
+    pub(crate) fn posts(
+        &self,
+        alloc: Global,
+        news: &News,
+        leaver: Option<ConnId>,
+    ) -> Result<Vec<Part>, AllocError>
+        ensures { IfOk result (λ parts. parts_with [] parts.items ≡ posts (without_leaver leaver self.now) (subject_of news.now)) }
+    {
+        let image = image_of(alloc, news)?;
+        let mut parts = Vec::new(alloc);
+        'receivers: for conn in &self.conns {
+            if self.is_still_told(conn, news, leaver) {
+                let image = Blob::of(image.to_vec(alloc)?);
+                parts.push(Part::Post {
+                    seat: conn.seat,
+                    image,
+                })?;
+            }
+        }
+        Ok(parts)
+    }
+
+    /// The posts of the notice of a name's new owner, by rising seat.
+    pub(crate) fn owner_posts(
+        &self,
+        alloc: Global,
+        change: &Change,
+    ) -> Result<Vec<Part>, AllocError>
+        ensures posts { IfOk result (λ parts. parts_with [] parts.items ≡ posts self.now (new_owner (change_in change.now))) }
+        ensures visitable { IfOk result (λ parts. AllByRecursion IsVisitable parts.items) }
+    {
+        let _ = &self.conns;
+        let parts = self.posts(alloc, &News::Owner(change), None)?;
+        Ok(parts)
+    }
+
+    /// Puts the posts of a notice behind other parts.
+    pub(crate) fn tell(
+        &self,
+        alloc: Global,
+        parts: &mut Vec<Part>,
+        news: &News,
+        leaver: Option<ConnId>,
+    ) -> Result<(), AllocError>
+        ensures { OnOk result (parts_with [] parts.new.items ≡ parts_with [] parts.old.items ++ posts (without_leaver leaver self.now) (subject_of news.now)) }
+    {
+        let mut posts = self.posts(alloc, news, leaver)?;
+        parts.append(&mut posts)
+    }
+}

@@ -1,0 +1,194 @@
+//! Offers of one message to its receivers.
+
+ghost use Rattle.std.specs.Prelude.{◌≡◌, ◌<◌, ◌^◌, ◌++◌, [], ◌∷◌, OnOk, OnErr, IfOk, IfErr, Some, None, map, true, false};
+ghost use Rattle.std.specs.List.{AllByRecursion};
+ghost use Rattle.kd_wire.specs.declared.reply.Reply.TheVariants as reply;
+ghost use Rattle.kd_image.specs.Images.{front, image_length, laid, padded};
+ghost use Rattle.kd_desk.specs.Drafts.{IsVisitable, parts_with, part_with};
+ghost use Rattle.kd_desk.specs.Sending.{offered};
+ghost use Rattle.kd_desk.specs.State.{monitors};
+
+use crate::change::Change;
+use crate::conn::Conn;
+use crate::content::Content;
+use crate::desk::Desk;
+use crate::part::Part;
+use crate::plan::Plan;
+use crate::who::WhoKind;
+use bytes::Bytes;
+use kd_image::{Attached, Message, build, image_len, is_short};
+use kd_item::{padding, put_bytes, put_zeros};
+use kd_types::{Blob, Kind, Refusal};
+use kd_wire::Reply;
+use std::alloc::{AllocError, Global};
+use std::marker::Model;
+
+/// Parts that are offers, each with its content. A contract sees them as the parts of a plan.
+#[derive(Drop)]
+pub(crate) struct Offers {
+    parts: Vec<Part>,
+    contents: Vec<Option<Content>>,
+}
+
+impl Model for Offers {
+    ghost use Rattle.std.specs.Prelude.{◌≡◌, List, vec_len};
+    ghost use Rattle.std.specs.List.{AllByRecursion};
+    ghost use Rattle.kd_desk.specs.Drafts.{IsVisitable, parts_with};
+    ghost use Rattle.kd_desk.specs.Send as send;
+
+    ghost Value = { List send.Part };
+
+    ghost view = { λ o. parts_with o.contents.items o.parts.items };
+
+    ghost invariant = { λ o. (vec_len o.contents ≡ vec_len o.parts) × AllByRecursion IsVisitable o.parts.items };
+}
+
+impl Offers {
+    fn new(alloc: Global) -> Offers
+        ensures { result ≡ [] }
+    {
+        Offers {
+            parts: Vec::new(alloc),
+            contents: Vec::new(alloc),
+        }
+    }
+
+    fn push(&mut self, part: Part, content: Content) -> Result<(), AllocError>
+        requires { IsVisitable part }
+        ensures { OnOk result (self.new ≡ self.old ++ part_with (Some content) part ∷ []) }
+    {
+        self.parts.reserve(1)?;
+        self.contents.push(Some(content))?;
+        self.parts.push(part).unwrap();
+        Ok(())
+    }
+
+    /// The plan of a message, which is these offers.
+    pub(crate) fn into_plan(self, change: Change, after: WhoKind) -> Plan
+        ensures parts { parts_with result.contents result.parts ≡ self }
+        ensures visitable { AllByRecursion IsVisitable result.parts }
+        ensures reply { result.reply ≡ reply.Send }
+        ensures change { result.change ≡ change }
+        ensures after { result.after ≡ after }
+    {
+        Plan {
+            parts: self.parts,
+            contents: self.contents,
+            reply: Reply::Send,
+            change,
+            after,
+        }
+    }
+}
+
+/// A message on its way: with the payloads that all its receivers share, and the id that its images name as destination.
+#[derive(Drop)]
+struct Letter {
+    message: Message,
+    payload: Bytes<Global>,
+    dst: u64,
+}
+
+/// Appends a payload, with zeros up to the next multiple of 8.
+fn put_padded(out: &mut Vec<u8>, payload: &[u8]) -> Result<(), AllocError>
+    ensures { OnOk result (out.new.items ≡ out.old.items ++ padded payload.now) }
+{
+    let zeros = padding(payload.len());
+    out.reserve(payload.len() + zeros)?;
+    put_bytes(out, payload);
+    put_zeros(out, zeros);
+    Ok(())
+}
+
+/// The payloads one after the other, each with its padding.
+fn lay(alloc: Global, payloads: &[Blob]) -> Result<Vec<u8>, AllocError>
+    ensures { IfOk result (λ v. v.items ≡ laid payloads.now) }
+{
+    let mut out = Vec::new(alloc);
+    'payloads: for payload in payloads {
+        put_padded(&mut out, payload.bytes())?;
+    }
+    Ok(out)
+}
+
+/// The content of the letter with this attached: a prefix of its own, and the payloads that are shared.
+fn content_for(
+    alloc: Global,
+    sender: &Conn,
+    letter: &Letter,
+    attached: &Attached,
+) -> Result<Content, AllocError>
+    requires { image_length letter.now.message attached.now < 2 ^ 32 }
+    ensures { IfOk result (λ c. c ≡ record { image = front letter.now.message sender.now.id letter.now.dst attached.now ++ letter.now.payload; shared = None; priority = letter.now.message.priority }) }
+{
+    let prefix = build(alloc, &letter.message, sender.id, letter.dst, attached)?;
+    Ok(Content {
+        prefix: Blob::of(prefix),
+        payload: letter.payload.clone()?,
+        priority: letter.message.priority,
+    })
+}
+
+impl Desk {
+    /// One offer more, of the letter to this receiver.
+    #[tactic(auto, unfolding(crate::specs::Sending::offered))]
+    fn offer(
+        &self,
+        alloc: Global,
+        offers: &mut Offers,
+        sender: &Conn,
+        letter: &Letter,
+        receiver: &Conn,
+        must: bool,
+    ) -> Result<(), Refusal>
+        requires laid { letter.now.payload ≡ laid letter.now.message.payloads }
+        requires seat { receiver.now.seat < 64 }
+        ensures ok { OnOk result (offers.new ≡ offers.old ++ offered self.now sender.now letter.now.message letter.now.dst must receiver.now ∷ []) }
+        ensures err { IfErr result (λ e. e ≡ Refusal.OutOfMemory) }
+    {
+        let attached = self.attached(alloc, sender, receiver)?;
+        // A message that isn't too long and 64 names don't come near this length.
+        if !is_short(&letter.message, &attached) {
+            return Err(Refusal::OutOfMemory);
+        }
+        let content = content_for(alloc, sender, letter, &attached)?;
+        let part = Part::Offer {
+            seat: receiver.seat,
+            user: sender.creds.uid,
+            len: image_len(&letter.message, &attached) as u32,
+            from: sender.id,
+            must,
+        };
+        offers.push(part, content)?;
+        Ok(())
+    }
+
+    /// The offers of a message to this receiver, which must be placed, and to each monitor.
+    pub(crate) fn offers(
+        &self,
+        alloc: Global,
+        sender: &Conn,
+        message: Message,
+        receiver: &Conn,
+    ) -> Result<Offers, Refusal>
+        requires seat { receiver.now.seat < 64 }
+        ensures ok { IfOk result (λ o. o ≡ offered self.now sender.now message receiver.now.id true receiver.now ∷ map (offered self.now sender.now message receiver.now.id false) (monitors self.now)) }
+        ensures err { IfErr result (λ e. e ≡ Refusal.OutOfMemory) }
+    {
+        let payload = Bytes::from_vec(lay(alloc, message.payloads.blobs())?)?;
+        let dst = receiver.id.0;
+        let letter = Letter {
+            message,
+            payload,
+            dst,
+        };
+        let mut offers = Offers::new(alloc);
+        self.offer(alloc, &mut offers, sender, &letter, receiver, true)?;
+        'monitors: for conn in &self.conns {
+            if matches!(conn.kind, Kind::Monitor) {
+                self.offer(alloc, &mut offers, sender, &letter, conn, false)?;
+            }
+        }
+        Ok(offers)
+    }
+}

@@ -1,0 +1,295 @@
+//! A command's plan: what isn't run yet, then who may give what.
+
+ghost use Rattle.std.specs.Prelude.{◌≡◌, ◌<◌, ◌^◌, [], Some, false, not, IsTrue, IfSome, option_map};
+ghost use Rattle.std.specs.Borrow.{Bor};
+ghost use Rattle.kd_model.specs.Words.{all_of};
+ghost use Rattle.kd_wire.specs.Commands.{opcode_in};
+ghost use Rattle.kd_wire.specs.Opcodes.{number_of};
+ghost use Rattle.kd_wire.specs.WellFormed.{is_well_formed};
+ghost use Rattle.kd_desk.specs.Drafts.{Answers};
+ghost use Rattle.kd_desk.specs.Runs.{answered, conn_answered, is_handover_by, is_not_run, is_plain, is_plain_send, runs, takes_over};
+ghost use Rattle.kd_desk.specs.State.{conn_of, is_ordinary};
+ghost use Rattle.kd_desk.specs.Step.{from_fresh, from_gone, from_old_keeper};
+ghost use Rattle.kd_desk.specs.declared.conn.Conn as conn;
+
+use crate::change::Change;
+use crate::conn::Conn;
+use crate::desk::Desk;
+use crate::naming::has_activator;
+use crate::plan::Plan;
+use crate::sent::Sent;
+use crate::who::{Who, WhoKind};
+use kd_types::{ConnId, Creds, Kind, NameFlags, Refusal, Seat, SendFlags, Text};
+use kd_wire::{Command, Reply, WireItem};
+use std::alloc::Global;
+
+/// The destination of a broadcast.
+pub(crate) const ANY: u64 = u64::MAX;
+
+fn is_plain(item: &WireItem) -> bool
+    ensures { result ≡ is_plain item.now }
+{
+    matches!(item, WireItem::Payload(_) | WireItem::DstName(_))
+}
+
+/// Whether a message goes to one receiver, expects no reply, and has payloads alone.
+fn is_plain_send(flags: SendFlags, dst: u64, items: &[WireItem]) -> bool
+    ensures { result ≡ is_plain_send flags dst items.now }
+{
+    if flags.expects_reply() {
+        return false;
+    }
+    if dst == ANY {
+        return false;
+    }
+    are_plain(items)
+}
+
+fn are_plain(items: &[WireItem]) -> bool
+    ensures { result ≡ all_of is_plain items.now }
+{
+    items.iter().all(|item| is_plain(item))
+}
+
+/// Whether the command is run so far: ordinary connections on the default endpoint, without metadata; messages to one receiver, of which
+/// no reply is expected; names.
+#[tactic(auto, unfolding(crate::specs::Runs::runs))]
+fn runs(cmd: &Command) -> bool
+    ensures { result ≡ runs cmd.now }
+{
+    match cmd {
+        Command::Hello {
+            flags,
+            send_mask,
+            receive_mask,
+            items,
+            ..
+        } => {
+            flags.word() == 0 && *send_mask == 0 && *receive_mask == 0 && items.items().is_empty()
+        }
+        Command::Send {
+            flags,
+            dst,
+            items,
+            ..
+        } => is_plain_send(*flags, *dst, items.items()),
+        Command::Byebye
+        | Command::Close
+        | Command::NameAcquire { .. }
+        | Command::NameRelease { .. }
+        | Command::NameList { .. }
+        | Command::Enter { .. } => true,
+        _ => false,
+    }
+}
+
+fn unsupported(cmd: &Command) -> Refusal
+    ensures { result ≡ Refusal.Unsupported (number_of (opcode_in cmd.now)) }
+{
+    Refusal::Unsupported {
+        cmd: cmd.opcode().number(),
+    }
+}
+
+/// A plan that visits nobody.
+fn quiet(alloc: Global, reply: Reply, change: Change, after: WhoKind) -> Plan
+    ensures { result ≡ record { parts = []; contents = []; reply = reply; change = change; after = after } }
+{
+    Plan {
+        parts: Vec::new(alloc),
+        contents: Vec::new(alloc),
+        reply,
+        change,
+        after,
+    }
+}
+
+impl Desk {
+    /// The live connection of this id.
+    pub fn conn_of(&self, id: ConnId) -> Option<&Conn>
+        ensures conn { option_map (λ (c : Bor conn.Conn). c.now) result ≡ conn_of self.now id }
+        ensures named { IfSome result (λ c. c.now.id ≡ id) }
+        ensures seat { IfSome result (λ c. c.now.seat < 64) }
+    {
+        self.conns.iter().find(|conn| conn.id == id)
+    }
+
+    /// Whether an acquire would take over the name of an activator.
+    #[tactic(auto, unfolding(crate::specs::Runs::takes_over, crate::specs::Owners::acquire_judged))]
+    fn takes_over(&self, conn: &Conn, flags: NameFlags, name: &Text) -> bool
+        ensures { result ≡ takes_over self.now conn.now flags name.now }
+    {
+        match self.judge_acquire(conn, flags, name) {
+            Ok(verdict) => has_activator(verdict),
+            Err(_) => false,
+        }
+    }
+
+    /// Whether the command takes over the name of an activator, of which there are none so far.
+    fn is_handover(&self, member: WhoKind, cmd: &Command) -> bool
+        ensures { result ≡ is_handover_by self.now member cmd.now }
+    {
+        let Command::NameAcquire { flags, name } = cmd else {
+            return false;
+        };
+        let WhoKind::Conn { id, .. } = member else {
+            return false;
+        };
+        match self.conn_of(id) {
+            Some(conn) => conn.kind == Kind::Ordinary && self.takes_over(conn, *flags, name),
+            None => false,
+        }
+    }
+
+    /// Whether the command is run so far for whoever gives it; if it isn't, its plan is refused as `Unsupported`.
+    pub fn runs(&self, who: &Who, cmd: &Command) -> bool
+        ensures { result ≡ not (is_not_run self.now who.now.member cmd.now) }
+    {
+        if !runs(cmd) {
+            return false;
+        }
+        match who.member {
+            WhoKind::Keeper(_) => false,
+            member => !self.is_handover(member, cmd),
+        }
+    }
+
+    /// What a command comes to, for whoever gives it. A refusal is the first that holds: a command that isn't run yet is
+    /// `Unsupported`, then a caller that may not give it at all is in the `WrongState`, and then the command's own come in their order.
+    /// Nothing changes; the plan takes all memory of the command, or the refusal is `OutOfMemory`.
+    #[tactic(auto, unfolding(crate::specs::Runs::answered, crate::specs::Runs::conn_answered, crate::specs::Step::plan))]
+    pub fn plan(&self, alloc: Global, who: &Who, cmd: Command) -> Result<Plan, Refusal>
+        requires form { IsTrue (is_well_formed cmd) }
+        requires ids { self.now.next_id < 2 ^ 63 }
+        ensures { Answers self.now (answered self.now who.now cmd) result }
+    {
+        if !runs(&cmd) {
+            return Err(unsupported(&cmd));
+        }
+        match who.member {
+            WhoKind::Fresh => self.from_fresh(alloc, &who.creds, cmd),
+            WhoKind::Conn { id, seat } => match self.conn_of(id) {
+                Some(conn) => self.from_conn(alloc, conn, cmd),
+                None => self.from_gone(alloc, seat, cmd),
+            },
+            WhoKind::Keeper(_) => Err(unsupported(&cmd)),
+            WhoKind::Old(Some(seat)) => self.from_gone(alloc, seat, cmd),
+            WhoKind::Old(None) => self.from_old_keeper(alloc, cmd),
+        }
+    }
+
+    /// Whoever is nothing yet. What it says of itself in an ENTER isn't the desk's.
+    #[tactic(auto, unfolding(crate::specs::Runs::runs, crate::specs::Drafts::drafted, crate::specs::Drafts::applied, crate::specs::Drafts::Fits))]
+    fn from_fresh(&self, alloc: Global, creds: &Creds, cmd: Command) -> Result<Plan, Refusal>
+        requires form { IsTrue (is_well_formed cmd) }
+        requires ids { self.now.next_id < 2 ^ 63 }
+        requires runs { IsTrue (runs cmd) }
+        ensures { Answers self.now (from_fresh self.now creds.now cmd) result }
+    {
+        match cmd {
+            Command::Hello { pool, .. } => self.plan_hello(alloc, creds, pool),
+            Command::Enter { .. } => Ok(quiet(
+                alloc,
+                Reply::Enter,
+                Change::Nothing,
+                WhoKind::Fresh,
+            )),
+            Command::Close => Ok(quiet(alloc, Reply::Close, Change::Nothing, WhoKind::Fresh)),
+            _ => Err(Refusal::WrongState),
+        }
+    }
+
+    /// A live connection.
+    fn from_conn(&self, alloc: Global, conn: &Conn, cmd: Command) -> Result<Plan, Refusal>
+        requires runs { IsTrue (runs cmd) }
+        requires live { conn_of self.now conn.now.id ≡ Some conn.now }
+        ensures { Answers self.now (conn_answered self.now conn.now cmd) result }
+    {
+        match conn.kind {
+            Kind::Ordinary => self.from_ordinary(alloc, conn, cmd),
+            Kind::Activator | Kind::Holder | Kind::Monitor => self.from_other(alloc, conn, cmd),
+        }
+    }
+
+    /// A live connection that neither sends nor owns names by itself.
+    #[tactic(auto, unfolding(crate::specs::Runs::conn_answered, crate::specs::Runs::runs))]
+    fn from_other(&self, alloc: Global, conn: &Conn, cmd: Command) -> Result<Plan, Refusal>
+        requires runs { IsTrue (runs cmd) }
+        requires live { conn_of self.now conn.now.id ≡ Some conn.now }
+        requires other { is_ordinary conn.now.kind ≡ false }
+        ensures { Answers self.now (conn_answered self.now conn.now cmd) result }
+    {
+        match cmd {
+            Command::Byebye => self.plan_byebye(alloc, conn),
+            Command::Close => self.plan_close(alloc, conn),
+            Command::NameList { flags } => self.plan_name_list(alloc, conn, flags),
+            _ => Err(Refusal::WrongState),
+        }
+    }
+
+    /// A live ordinary connection.
+    #[tactic(auto, unfolding(crate::specs::Runs::conn_answered, crate::specs::Runs::runs))]
+    fn from_ordinary(&self, alloc: Global, conn: &Conn, cmd: Command) -> Result<Plan, Refusal>
+        requires runs { IsTrue (runs cmd) }
+        requires live { conn_of self.now conn.now.id ≡ Some conn.now }
+        requires ordinary { conn.now.kind ≡ Kind.Ordinary }
+        ensures { Answers self.now (conn_answered self.now conn.now cmd) result }
+    {
+        match cmd {
+            Command::Byebye => self.plan_byebye(alloc, conn),
+            Command::Close => self.plan_close(alloc, conn),
+            Command::NameList { flags } => self.plan_name_list(alloc, conn, flags),
+            Command::Send {
+                flags,
+                priority,
+                dst,
+                payload_type,
+                cookie,
+                last,
+                items,
+                ..
+            } => self.plan_send(
+                alloc,
+                conn,
+                Sent {
+                    flags,
+                    priority,
+                    dst,
+                    payload_type,
+                    cookie,
+                    last,
+                    items,
+                },
+            ),
+            Command::NameAcquire { flags, name } => self.plan_acquire(alloc, conn, flags, name),
+            Command::NameRelease { name } => self.plan_release(alloc, conn, name),
+            _ => Err(Refusal::WrongState),
+        }
+    }
+
+    /// A connection that others closed.
+    #[tactic(auto, unfolding(crate::specs::Runs::runs, crate::specs::Drafts::drafted, crate::specs::Drafts::applied, crate::specs::Drafts::Fits))]
+    fn from_gone(&self, alloc: Global, seat: Seat, cmd: Command) -> Result<Plan, Refusal>
+        requires runs { IsTrue (runs cmd) }
+        ensures { Answers self.now (from_gone self.now seat cmd) result }
+    {
+        let reply = match cmd {
+            Command::Byebye => Reply::Byebye,
+            Command::Close => Reply::Close,
+            _ => return Err(Refusal::WrongState),
+        };
+        Ok(quiet(alloc, reply, Change::Unblocks(seat), WhoKind::Fresh))
+    }
+
+    /// A keeper of an endpoint of a bus that was removed since.
+    #[tactic(auto, unfolding(crate::specs::Runs::runs, crate::specs::Drafts::drafted, crate::specs::Drafts::applied, crate::specs::Drafts::Fits))]
+    fn from_old_keeper(&self, alloc: Global, cmd: Command) -> Result<Plan, Refusal>
+        requires runs { IsTrue (runs cmd) }
+        ensures { Answers self.now (from_old_keeper self.now cmd) result }
+    {
+        match cmd {
+            Command::Close => Ok(quiet(alloc, Reply::Close, Change::Nothing, WhoKind::Fresh)),
+            _ => Err(Refusal::WrongState),
+        }
+    }
+}
