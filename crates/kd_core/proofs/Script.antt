@@ -15,7 +15,7 @@ use Rattle.kd_bloom.specs.Bits.{has, numbers, passes}
 use Rattle.kd_match.specs.Told.{holds}
 use Rattle.kd_match.specs.Rules.{with_rule}
 use Rattle.kd_image.specs.Images.{header, front_length, front, image, image_length, notice_image}
-use Rattle.kd_pool.specs.Steps.{over_quota, reserve_step, must_offer_step, offer_step, filled, fill_step, post_step, drain_step, next, receive_step, read_answer, visit_step, open_step, closed_answer, pool_step}
+use Rattle.kd_pool.specs.Steps.{reserved_length, free_refusal, over_quota, reserve_step, must_offer_step, offer_step, filled, fill_step, post_step, drain_step, next, receive_step, read_answer, visit_step, open_step, closed_answer, pool_step}
 use Rattle.kd_desk.specs.State.{opening}
 use Rattle.kd_desk.specs.Rights.{may_see_name, may_see, may_own, may_talk}
 use Rattle.kd_desk.specs.Audience.{is_shown, audience}
@@ -25,7 +25,8 @@ use Rattle.kd_desk.specs.Leaving.{without_conns, leaving_notices, byebye, close_
 use Rattle.kd_desk.specs.Naming.{with_claim, name_acquire, without_claim, release_refusals, name_release, listed, name_list}
 use Rattle.kd_desk.specs.Asking.{match_refusals, match_add, match_remove, policy_set, endpoint_refusals, with_endpoint, endpoint_make, tick, seal, unseal}
 use Rattle.kd_desk.specs.Step.{send, plan, visited, next_part, first_ends}
-use Rattle.kd_core.specs.World.{World, Pending, Event, Says, take, visit, leave, publishes, receives, reads, frees, new_world, planned, parts_planned, desk_end, next_visit, caller_at, legal, act_of, pool_answer, pools_after, desk_after, holder_after, callers_after, step, says, all_legal, run_says}
+use Rattle.kd_core.specs.Pendings.{Pending}
+use Rattle.kd_core.specs.World.{World, Event, Says, take, visit, leave, publishes, receives, reads, frees, new_world, planned, parts_planned, desk_end, next_visit, caller_at, legal, act_of, pool_answer, pools_after, desk_after, holder_after, callers_after, step, says, all_legal, run_says}
 
 pub data Line : Type 0 where
   does : (caller : ℕ) (command : Command) → Line
@@ -65,7 +66,7 @@ each w (l ∷ ls) = let x : Says × World = line l w in x.0 ∷ each x.1 ls
 
 -- what the lines are answered, from the opening of a replay
 unfoldable pub script : List Line → List Says
-unfolding gaps best_gap place lowest_unused word level_of level_in put_refusal after_put after_drop number_of free_place add_refusal after_add after_remove has numbers passes holds with_rule header front_length front image image_length notice_image over_quota reserve_step must_offer_step offer_step filled fill_step post_step drain_step next receive_step read_answer visit_step open_step closed_answer pool_step opening may_see_name may_see may_own may_talk is_shown audience attached is_reply send_refusals send_parts requests_after free_seat newcomer hello_refusals with_newcomer hello without_conns leaving_notices byebye close_conn without_endpoint close_endpoint with_claim name_acquire without_claim release_refusals name_release listed name_list match_refusals match_add match_remove policy_set endpoint_refusals with_endpoint endpoint_make tick seal unseal send plan visited next_part first_ends new_world planned parts_planned desk_end next_visit act_of pool_answer pools_after desk_after holder_after callers_after says
+unfolding reserved_length free_refusal gaps best_gap place lowest_unused word level_of level_in put_refusal after_put after_drop number_of free_place add_refusal after_add after_remove has numbers passes holds with_rule header front_length front image image_length notice_image over_quota reserve_step must_offer_step offer_step filled fill_step post_step drain_step next receive_step read_answer visit_step open_step closed_answer pool_step opening may_see_name may_see may_own may_talk is_shown audience attached is_reply send_refusals send_parts requests_after free_seat newcomer hello_refusals with_newcomer hello without_conns leaving_notices byebye close_conn without_endpoint close_endpoint with_claim name_acquire without_claim release_refusals name_release listed name_list match_refusals match_add match_remove policy_set endpoint_refusals with_endpoint endpoint_make tick seal unseal send plan visited next_part first_ends new_world planned parts_planned desk_end next_visit act_of pool_answer pools_after desk_after holder_after callers_after says
 script ls = each (new_world 1000 64 8) ls
 
 abbrev pub world_after : World → List Line → World
@@ -74,12 +75,12 @@ world_after w (l ∷ ls) = let x : Says × World = line l w in world_after x.1 l
 
 -- what some events answer behind some lines
 unfoldable pub events_say : List Line → List Event → List Says
-unfolding gaps best_gap place lowest_unused word level_of level_in put_refusal after_put after_drop number_of free_place add_refusal after_add after_remove has numbers passes holds with_rule header front_length front image image_length notice_image over_quota reserve_step must_offer_step offer_step filled fill_step post_step drain_step next receive_step read_answer visit_step open_step closed_answer pool_step opening may_see_name may_see may_own may_talk is_shown audience attached is_reply send_refusals send_parts requests_after free_seat newcomer hello_refusals with_newcomer hello without_conns leaving_notices byebye close_conn without_endpoint close_endpoint with_claim name_acquire without_claim release_refusals name_release listed name_list match_refusals match_add match_remove policy_set endpoint_refusals with_endpoint endpoint_make tick seal unseal send plan visited next_part first_ends new_world planned parts_planned desk_end next_visit act_of pool_answer pools_after desk_after holder_after callers_after says run_says
+unfolding reserved_length free_refusal gaps best_gap place lowest_unused word level_of level_in put_refusal after_put after_drop number_of free_place add_refusal after_add after_remove has numbers passes holds with_rule header front_length front image image_length notice_image over_quota reserve_step must_offer_step offer_step filled fill_step post_step drain_step next receive_step read_answer visit_step open_step closed_answer pool_step opening may_see_name may_see may_own may_talk is_shown audience attached is_reply send_refusals send_parts requests_after free_seat newcomer hello_refusals with_newcomer hello without_conns leaving_notices byebye close_conn without_endpoint close_endpoint with_claim name_acquire without_claim release_refusals name_release listed name_list match_refusals match_add match_remove policy_set endpoint_refusals with_endpoint endpoint_make tick seal unseal send plan visited next_part first_ends new_world planned parts_planned desk_end next_visit act_of pool_answer pools_after desk_after holder_after callers_after says run_says
 events_say ls es = run_says (world_after (new_world 1000 64 8) ls) es
 
 -- whether the events are legal behind the lines
 unfoldable pub events_legal : List Line → List Event → Bool
-unfolding gaps best_gap place lowest_unused word level_of level_in put_refusal after_put after_drop number_of free_place add_refusal after_add after_remove has numbers passes holds with_rule header front_length front image image_length notice_image over_quota reserve_step must_offer_step offer_step filled fill_step post_step drain_step next receive_step read_answer visit_step open_step closed_answer pool_step opening may_see_name may_see may_own may_talk is_shown audience attached is_reply send_refusals send_parts requests_after free_seat newcomer hello_refusals with_newcomer hello without_conns leaving_notices byebye close_conn without_endpoint close_endpoint with_claim name_acquire without_claim release_refusals name_release listed name_list match_refusals match_add match_remove policy_set endpoint_refusals with_endpoint endpoint_make tick seal unseal send plan visited next_part first_ends new_world planned parts_planned desk_end next_visit act_of pool_answer pools_after desk_after holder_after callers_after says flaw_of legal all_legal
+unfolding reserved_length free_refusal gaps best_gap place lowest_unused word level_of level_in put_refusal after_put after_drop number_of free_place add_refusal after_add after_remove has numbers passes holds with_rule header front_length front image image_length notice_image over_quota reserve_step must_offer_step offer_step filled fill_step post_step drain_step next receive_step read_answer visit_step open_step closed_answer pool_step opening may_see_name may_see may_own may_talk is_shown audience attached is_reply send_refusals send_parts requests_after free_seat newcomer hello_refusals with_newcomer hello without_conns leaving_notices byebye close_conn without_endpoint close_endpoint with_claim name_acquire without_claim release_refusals name_release listed name_list match_refusals match_add match_remove policy_set endpoint_refusals with_endpoint endpoint_make tick seal unseal send plan visited next_part first_ends new_world planned parts_planned desk_end next_visit act_of pool_answer pools_after desk_after holder_after callers_after says flaw_of legal all_legal
 events_legal ls es = all_legal (world_after (new_world 1000 64 8) ls) es
 
 -- ---- what the scripts are made of

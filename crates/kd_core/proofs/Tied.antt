@@ -10,7 +10,11 @@ use Rattle.kd_desk.specs.State.{Desk, opening}
 use Rattle.kd_desk.specs.Send.{Part}
 use Rattle.kd_desk.specs.Plans.{Plan}
 use Rattle.kd_desk.specs.Step.{visited, next_part, met, images_in, first_ends}
-use Rattle.kd_core.specs.World.{World, Caller, Holder, Pending, Told, Event, take, visit, leave, publishes, receives, reads, frees, new_world, caller_at, aimed, act_at, act_of, next_visit, parts_held, parts_planned, planned, desk_end, legal, step, desk_after, holder_after, runs, all_legal, pool_answer, publish_of, free_of, pending_of, seat_of, told_of, is_part_at, is_caller, is_for_desk, is_well_formed}
+use Rattle.kd_core.specs.declared.hand.Told.{Told}
+use Rattle.kd_core.specs.declared.hand.Told.TheVariants.{Peeked, Handed}
+use Rattle.kd_wire.specs.WellFormed.{is_well_formed}
+use Rattle.kd_core.specs.Pendings.{Pending}
+use Rattle.kd_core.specs.World.{World, Caller, Holder, Event, take, visit, leave, publishes, receives, reads, frees, new_world, caller_at, aimed, act_at, act_of, next_visit, parts_held, parts_planned, planned, desk_end, legal, step, desk_after, holder_after, runs, all_legal, pool_answer, publish_of, free_of, pending_of, seat_of, told_of, is_part_at, is_caller, is_for_desk}
 use Rattle.kd_core.specs.Tie.{DeskEntry, entry_of, desk_adds, act_on, pool_adds, desk_history, pool_history, visit_in, made, at_seat, acts_at, parts, visited_at, AddressedIsOffered, OfferedSoFar}
 
 -- lists
@@ -89,11 +93,8 @@ made_at c (Some s) a e = made_if (s == c) a e
 made_free : (c : ℕ) (s : Option ℕ) (n : ℕ) (t : Option Told) → made (act_on c (free_of s n t)) ≡ []
 unfolding made
 made_free c s n None = refl
-made_free c s n (Some t) = go t.is_peeked
-  where
-    go : (b : Bool) → made (act_on c (elim b [ true ↦ None | false ↦ act_at s (free n) ])) ≡ []
-    go true = refl
-    go false = made_at c s (free n) refl
+made_free c s n (Some Peeked) = refl
+made_free c s n (Some Handed) = made_at c s (free n) refl
 
 -- a visit leaves itself
 made_visit : (c : ℕ) (p : Part) → made (act_on c (Some (aimed p))) ≡ at_seat c p

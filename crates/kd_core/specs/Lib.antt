@@ -1,2 +1,16 @@
 pub mod World
+pub mod Hands
+pub mod Pendings
+pub mod Publishing
+pub mod Stack
+pub mod Counts
 pub mod Tie
+pub mod Lists
+pub mod Ahead
+pub mod Running
+pub mod Planned
+pub mod Visits
+pub mod Held
+pub mod Acting
+pub mod Along
+pub mod Placed

@@ -78,11 +78,16 @@ visited_at w c = elim w.holder [ None ↦ [] | Some h ↦ acts_at c (visited [] 
 abbrev pub AreLegal : ℕ → ℕ → ℕ → List Event → Type 0
 AreLegal creator size hashes es = IsTrue (all_legal (new_world creator size hashes) es)
 
+-- a seat's pool was made just what the desk's history addresses to it, in order, each once
+abbrev pub IsOffered : ℕ → ℕ → ℕ → ℕ → List Event → Type 0
+IsOffered creator size hashes c es =
+    made (pool_history (new_world creator size hashes) c es) ≡ parts (opening creator size hashes) c (desk_history (new_world creator size hashes) es)
+
 -- whenever the desk is free, each pool was offered just what the desk's history addresses to it, in order, each once
 abbrev pub AddressedIsOffered : Type 0
 AddressedIsOffered =
     (creator size hashes : ℕ) (es : List Event) (c : ℕ) → AreLegal creator size hashes es → IsNone ((runs (new_world creator size hashes) es).holder)
-    → made (pool_history (new_world creator size hashes) c es) ≡ parts (opening creator size hashes) c (desk_history (new_world creator size hashes) es)
+    → IsOffered creator size hashes c es
 
 -- and while somebody holds it, followed by what the holder has visited
 abbrev pub OfferedSoFar : Type 0

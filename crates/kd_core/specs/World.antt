@@ -1,23 +1,21 @@
 -- One desk, its holder, 64 pools and 64 callers; the events, which are legal, and what each changes and answers.
-use Rattle.std.specs.Prelude.{ℕ, ◌-◌, Bool, true, false, not, ◌&&◌, List, [], ◌∷◌, ◌++◌, replicate, get_or, set, Option, Some, None, Result, Ok, Err, is_some, is_none, nat_le, nat_lt, ◌==◌, option_map, unwrap_or, codes}
+use Rattle.std.specs.Prelude.{ℕ, ◌-◌, Bool, true, false, not, ◌&&◌, List, [], ◌∷◌, ◌++◌, replicate, get_or, set, Option, Some, None, Result, Ok, Err, is_some, is_none, nat_le, ◌==◌, option_map, unwrap_or, codes}
 use Rattle.kd_types.specs.declared.creds.Creds.{Creds}
 use Rattle.kd_types.specs.declared.creds.Kind.{Kind}
 use Rattle.kd_types.specs.declared.creds.Kind.TheVariants.{Ordinary}
 use Rattle.kd_types.specs.declared.refusal.Refusal.{Refusal}
 use Rattle.kd_types.specs.declared.refusal.Refusal.TheVariants.{NoSuchSlice, NotReceived, WrongState, NoSuchBus}
-use Rattle.kd_model.specs.Words.{same, first, but_those, put_in_order}
+use Rattle.kd_model.specs.Words.{same, first}
 use Rattle.kd_wire.specs.declared.item.WireItem.{WireItem}
 use Rattle.kd_wire.specs.declared.command.Command.{Command}
 use Rattle.kd_wire.specs.declared.command.Command.TheVariants as cmd
 use Rattle.kd_wire.specs.declared.reply.Reply.{Reply}
-use Rattle.kd_wire.specs.Commands.{opcode_in, flags_of, words_of, items_of}
-use Rattle.kd_wire.specs.Refusals.{flaw_of}
-use Rattle.kd_wire.specs.Kinds.{kinds_of}
-use Rattle.kd_wire.specs.Reading.{stand}
-use Rattle.kd_wire.specs.Frames.{frame_length}
+use Rattle.kd_wire.specs.WellFormed.{is_well_formed}
 use Rattle.kd_pool.specs.declared.receive.RecvMode.{RecvMode}
-use Rattle.kd_pool.specs.State.{Hold, Visit, Act, by_desk, Answer, Content, offer, publish, receive, read, free, done, slice, refused, got, drained, freed}
+use Rattle.kd_pool.specs.State.{Hold, Visit, Act, by_desk, Answer, offer, publish, receive, read, free, done, slice, refused, drained, freed}
 use Rattle.kd_pool.specs.Steps.{pool_step}
+use Rattle.kd_core.specs.declared.hand.Told.{Told}
+use Rattle.kd_core.specs.declared.hand.Told.TheVariants.{Peeked, Handed}
 use Rattle.kd_desk.specs.declared.conn.Conn.{Conn}
 use Rattle.kd_desk.specs.declared.who.Who.{Who}
 use Rattle.kd_desk.specs.declared.who.WhoKind.{WhoKind}
@@ -26,25 +24,16 @@ use Rattle.kd_desk.specs.State.{Desk, opening, conn_of, is_holder}
 use Rattle.kd_desk.specs.Items.{bus_in}
 use Rattle.kd_desk.specs.Send.{Part}
 use Rattle.kd_desk.specs.Plans.{Plan}
+use Rattle.kd_core.specs.Hands.{empty_hand, hand_freed, hand_received}
+use Rattle.kd_core.specs.Pendings.{Pending}
 use Rattle.kd_desk.specs.Step.{Ended, plan, parts_in, next_part, first_ends, ended_by}
 
--- an offer that was placed and isn't published
-pub record Pending : Type 0 where
-  pub seat : ℕ
-  pub generation : ℕ
-  pub number : ℕ
-  pub content : Content
-
--- a slice number that a caller was told, and whether it has only looked at it
-pub record Told : Type 0 where
-  pub number : ℕ
-  pub is_peeked : Bool
-
--- the kind stays known after the connection is gone; the hand stands by rising number, the pendings in the order of their making
+-- the kind stays known after the connection is gone; the hand has what was told of each slice number, and the pendings stand in the order
+-- of their making
 pub record Caller : Type 0 where
   pub who : Who
   pub kind : Kind
-  pub hand : List Told
+  pub hand : List (Option Told)
   pub pendings : List Pending
 
 -- who has taken the desk, with which command, and what the pools answered so far
@@ -84,7 +73,7 @@ closed = record { generation = 0; pool = None }
 
 -- a caller that hasn't said who it is
 abbrev pub stranger : Caller
-stranger = record { who = record { creds = record { uid = 1000; gid = 1000; privileged = false }; member = who.Fresh }; kind = Ordinary; hand = []; pendings = [] }
+stranger = record { who = record { creds = record { uid = 1000; gid = 1000; privileged = false }; member = who.Fresh }; kind = Ordinary; hand = empty_hand; pendings = [] }
 
 -- by the bus's creator, and the size and hashes of its filters
 unfoldable pub new_world : ℕ → ℕ → ℕ → World
@@ -158,11 +147,8 @@ seat_of c = elim c.who.member [
   | who.Old s ↦ None
 ]
 
-abbrev pub is_number : ℕ → Told → Bool
-is_number n t = t.number == n
-
 abbrev pub told_of : Caller → ℕ → Option Told
-told_of c n = first (is_number n) c.hand
+told_of c n = get_or c.hand n None
 
 -- ---- legal events; a caller that holds the desk may only visit and leave
 
@@ -180,13 +166,6 @@ is_for_desk (cmd.Read sealed number) = false
 is_for_desk (cmd.Free number) = false
 is_for_desk (cmd.MakeBus size hashes bus) = false
 is_for_desk _ = true
-
--- it has a frame, of at most so many bytes
-abbrev pub is_well_formed : Command → Bool
-is_well_formed x =
-    nat_le (frame_length x) 131072
-    && stand (kinds_of (opcode_in x) (flags_of x)) [] (items_of x)
-    && is_none (flaw_of (opcode_in x) (flags_of x) (words_of x) (items_of x))
 
 unfoldable pub legal : World → Event → Bool
 legal w (take n x) = is_caller n && is_none w.holder && is_for_desk x && is_well_formed x
@@ -215,7 +194,8 @@ publish_of (Some p) = Some (record { seat = p.seat; act = publish p.generation p
 -- by the hand alone
 abbrev pub free_of : Option ℕ → ℕ → Option Told → Option Aimed
 free_of s n None = None
-free_of s n (Some t) = elim t.is_peeked [ true ↦ None | false ↦ act_at s (free n) ]
+free_of s n (Some Peeked) = None
+free_of s n (Some Handed) = act_at s (free n)
 
 abbrev pub aimed : Part → Aimed
 aimed p = record { seat = p.seat; act = by_desk p.act }
@@ -268,9 +248,9 @@ abbrev pub kind_after : Desk → WhoKind → Kind → Kind
 kind_after d (who.Conn id s) old = unwrap_or (option_map (λ (c : Conn). c.kind) (conn_of d id)) old
 kind_after d _ old = old
 
-abbrev pub hand_after : WhoKind → List Told → List Told
+abbrev pub hand_after : WhoKind → List (Option Told) → List (Option Told)
 hand_after (who.Conn id s) hand = hand
-hand_after _ hand = []
+hand_after _ hand = empty_hand
 
 -- a caller says who it is by an ENTER alone
 abbrev pub creds_after : Creds → Command → Creds
@@ -290,25 +270,6 @@ left_caller w h c =
 abbrev pub without_first : {X : Type 0} → (X → Bool) → List X → List X
 without_first test [] = []
 without_first test (x ∷ xs) = elim (test x) [ true ↦ xs | false ↦ x ∷ without_first test xs ]
-
-abbrev pub forget : ℕ → List Told → List Told
-forget n hand = but_those (is_number n) hand
-
-abbrev pub is_below : Told → Told → Bool
-is_below a b = nat_lt a.number b.number
-
-abbrev pub take_in : Told → List Told → List Told
-take_in t hand = put_in_order is_below t (forget t.number hand)
-
--- a received number comes into the hand, a dropped one doesn't
-abbrev pub hand_received : RecvMode → Answer → List Told → List Told
-hand_received mode (got n offset len dropped) hand = elim mode.drop_it [ true ↦ forget n hand | false ↦ take_in (record { number = n; is_peeked = mode.peek }) hand ]
-hand_received mode _ hand = hand
-
--- a freed number leaves the hand
-abbrev pub hand_freed : ℕ → Option Told → List Told → List Told
-hand_freed n None hand = hand
-hand_freed n (Some t) hand = elim t.is_peeked [ true ↦ hand | false ↦ forget n hand ]
 
 abbrev pub with_caller : World → ℕ → Caller → List Caller
 with_caller w n c = set w.callers (n - 1) c
@@ -339,7 +300,8 @@ when_seated (Some s) a = a
 
 abbrev pub freed_answer : Option Told → Answer
 freed_answer None = refused NoSuchSlice
-freed_answer (Some t) = elim t.is_peeked [ true ↦ refused NotReceived | false ↦ freed ]
+freed_answer (Some Peeked) = refused NotReceived
+freed_answer (Some Handed) = freed
 
 abbrev pub taken_answer : Result Plan Refusal → Says
 taken_answer (Err r) = turned_away r

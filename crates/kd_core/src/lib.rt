@@ -8,9 +8,38 @@
 //!
 //! A caller takes the desk with a command, visits the pools of the plan's parts, and leaves the desk; then it publishes what it
 //! offered. Receives, reads and frees go by the caller's own pool and hand, whoever holds the desk. `specs/` says which events are
-//! legal, and what each changes and answers; `laws` has what is proved of every list of them. No code runs events yet.
+//! legal, and what each changes and answers; `laws` has what is proved of every list of them. A [`World`] runs them: one by one,
+//! or a list with [`run_events`]. Each event is a file of its own where it asks for more than a call at a pool.
 #![tactic(auto)]
 
+mod asking;
+mod caller;
+mod delivering;
+mod event;
+mod hand;
+mod hold;
+mod holder;
+mod judging;
+mod keeping;
 mod laws;
+mod leaving;
+mod made;
+mod oldest;
+mod opened;
+mod pending;
+mod pools;
+mod stepping;
+mod taking;
+mod using;
+mod visiting;
+mod world;
 
-pub use laws::{addressed_is_offered, offered_so_far};
+pub use caller::Caller;
+pub use event::{Answer, Event};
+pub use hand::{Hand, Told};
+pub use hold::Hold;
+pub use laws::{addressed_is_offered, counts_by_one, offered_so_far};
+pub use made::Made;
+pub use pending::{Pending, Published};
+pub use stepping::{RunError, run_events};
+pub use world::World;

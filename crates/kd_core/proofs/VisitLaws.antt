@@ -1,0 +1,343 @@
+-- A holder's visit of its next part.
+use Rattle.std.specs.Prelude.{◌≡◌, ◌<◌, ◌+◌, ◌^◌, ◌++◌, ◌&&◌, ◌==◌, ℕ, false, List, [], ◌∷◌, Option, Some, None, Result, Ok, Err, ◌≤◌, IsTrue, IsSome, IfSome, OnErr, length, drop, set, get_or, option_map}
+use Rattle.std.specs.List.{AllByRecursion}
+use Rattle.std.proofs.Common.{refl, sym, ap, ◌∙◌, subst, arith, zero, suc, length-append, Vec, Global}
+use Rattle.std.specs.declared.snapshot.Snapshot.{Snapshot}
+use Rattle.std.proofs.lemmas.Bool.{true≢false}
+use Rattle.std.proofs.lemmas.List.{drop_more, length-set}
+use Rattle.kd_types.specs.declared.refusal.Refusal.{Refusal}
+use Rattle.kd_pool.specs.State.{Answer, Content, Hold, by_desk, done}
+use Rattle.kd_pool.specs.Steps.{pool_step}
+use Rattle.kd_desk.specs.declared.part.Part as code
+use Rattle.kd_desk.specs.declared.part.Out.{Out}
+use Rattle.kd_desk.specs.declared.part.Out.TheVariants as out
+use Rattle.kd_core.specs.declared.event.Answer.TheVariants as answer
+use Rattle.kd_core.specs.declared.hold.Hold as hold
+use Rattle.kd_wire.specs.declared.command.Command.{Command}
+use Rattle.kd_desk.specs.declared.who.Who.{Who}
+use Rattle.kd_desk.specs.State.{Desk}
+use Rattle.kd_desk.specs.Drafts.{Draft, IsVisitable, drafted, part_with, parts_with}
+use Rattle.kd_desk.specs.Outs.{answer_of, answers_of}
+use Rattle.kd_desk.specs.Plans.{Plan}
+use Rattle.kd_desk.specs.Send.{Part}
+use Rattle.kd_desk.specs.Step.{first_ends, next_part, parts_in}
+use Rattle.kd_core.specs.declared.holder.Holder as holder
+use Rattle.kd_core.specs.declared.world.World.TheInside.{Inside}
+use Rattle.kd_core.specs.Counts.{IsBelow, is_settle}
+use Rattle.kd_core.specs.Held.{IsHeld, IsHeldBy, IsWhole, holder_of, world_of}
+use Rattle.kd_core.specs.Stack.{stack_of}
+use Rattle.kd_core.specs.Lists.{first_of}
+use Rattle.kd_core.specs.Running.{Running, is_run, may, out_of, said, stepped}
+use Rattle.kd_core.specs.Visits.{HasVisited, IsReady, IsSameHolder, IsVisited}
+use Rattle.kd_core.specs.World.{World, Holder, Aimed, aimed, closed, visit, legal, is_caller, is_part_at, next_visit, parts_planned, planned, act_of, desk_after, holder_after, pools_after, callers_after, pool_answer, says, step, told}
+use Rattle.kd_core.proofs.Ahead.{next_is_ahead, seat_with}
+use Rattle.kd_core.proofs.Seen.{held_in, inner}
+use Rattle.kd_core.proofs.Below.{below_after}
+use Rattle.kd_core.proofs.Counting.{visits_no_settle}
+use Rattle.kd_core.proofs.Takes.{left_holds, right_holds}
+use Rattle.kd_core.proofs.Wholes.{with_steps}
+
+-- ---- what is left to visit
+
+-- the part of the code that stands where one of the definitions does
+pub record Meets (n : ℕ) (cs : List (Option Content)) (ps : List code.Part) (q : Part) : Type 0 where
+  pub part : code.Part
+  pub rest : List code.Part
+  pub content : Option Content
+  pub ahead : drop n ps ≡ part ∷ rest
+  pub same : q ≡ part_with content part
+
+the_same : (p q : Part) → Some p ≡ Some q → q ≡ p
+the_same p q e = sym cc
+
+pub part_ahead_is : (n : ℕ) (cs : List (Option Content)) (ps : List code.Part) (q : Part) → first_of (drop n (parts_with cs ps)) ≡ Some q → Meets n cs ps q
+part_ahead_is zero [] [] q e = absurd cc
+part_ahead_is zero (c ∷ cs) [] q e = absurd cc
+part_ahead_is zero [] (p ∷ ps) q e = record { part = p; rest = ps; content = None; ahead = refl; same = the_same (part_with None p) q e }
+part_ahead_is zero (c ∷ cs) (p ∷ ps) q e = record { part = p; rest = ps; content = c; ahead = refl; same = the_same (part_with c p) q e }
+part_ahead_is (suc n) [] [] q e = absurd cc
+part_ahead_is (suc n) (c ∷ cs) [] q e = absurd cc
+part_ahead_is (suc n) [] (p ∷ ps) q e = let m = part_ahead_is n [] ps q e in record { part = m.part; rest = m.rest; content = m.content; ahead = m.ahead; same = m.same }
+part_ahead_is (suc n) (c ∷ cs) (p ∷ ps) q e = let m = part_ahead_is n cs ps q e in record { part = m.part; rest = m.rest; content = m.content; ahead = m.ahead; same = m.same }
+
+pub some_left : {X : Type 0} (n : ℕ) (xs : List X) (x : X) (rest : List X) → drop n xs ≡ x ∷ rest → n < length xs
+some_left zero [] x rest e = absurd cc
+some_left zero (y ∷ ys) x rest e = omega arith
+some_left (suc n) [] x rest e = absurd cc
+some_left (suc n) (y ∷ ys) x rest e = let lt : n < length ys = some_left n ys x rest e in omega (arith, lt)
+
+abbrev behind_first : {X : Type 0} → List X → List X
+behind_first [] = []
+behind_first (x ∷ xs) = xs
+
+pub one_less : {X : Type 0} (n : ℕ) (xs : List X) (x : X) (rest : List X) → drop n xs ≡ x ∷ rest → drop (n + 1) xs ≡ rest
+one_less n xs x rest e = ap behind_first (sym (drop_more xs n x (some_left n xs x rest e)) ∙ e)
+
+pub visitable_at : (n : ℕ) (ps : List code.Part) (p : code.Part) (rest : List code.Part) → AllByRecursion IsVisitable ps → drop n ps ≡ p ∷ rest → IsVisitable p
+visitable_at zero [] p rest a e = absurd cc
+visitable_at zero (x ∷ ps) p rest a e = let same : x ≡ p = cc in subst IsVisitable same a.0
+visitable_at (suc n) [] p rest a e = absurd cc
+visitable_at (suc n) (x ∷ ps) p rest a e = visitable_at n ps p rest a.1 e
+
+-- ---- what is visited next
+
+-- the next visit, by the plan of the code
+visit_by : (w : World) (h : holder.Holder) → planned w.desk h.who h.command.value ≡ Ok (drafted w.desk h.plan)
+    → next_visit w (holder_of h) ≡ elim (first_ends (parts_with h.plan.contents h.plan.parts) (answers_of h.outs.items)) [ Some why ↦ None | None ↦ first_of (drop (length h.outs.items) (parts_with h.plan.contents h.plan.parts)) ]
+unfolding next_visit parts_planned drafted
+visit_by w h e =
+    let outs : List Answer = answers_of h.outs.items in
+    ap (λ (r : Result Plan Refusal). elim (first_ends (parts_in r) outs) [ Some why ↦ None | None ↦ next_part [] (parts_in r) outs ]) e
+    ∙ ap (λ (o : Option Part). elim (first_ends (parts_with h.plan.contents h.plan.parts) outs) [ Some why ↦ None | None ↦ o ]) (next_is_ahead h.plan.contents h.plan.parts h.outs.items)
+
+not_ended : (ends : Option Refusal) (o : Option Part) (q : Part) → elim ends [ Some why ↦ None | None ↦ o ] ≡ Some q → o ≡ Some q
+not_ended (Some why) o q e = absurd cc
+not_ended None o q e = e
+
+pub meets_next : (w : World) (h : holder.Holder) (q : Part) → planned w.desk h.who h.command.value ≡ Ok (drafted w.desk h.plan) → next_visit w (holder_of h) ≡ Some q
+    → Meets (length h.outs.items) h.plan.contents h.plan.parts q
+meets_next w h q p e =
+    part_ahead_is (length h.outs.items) h.plan.contents h.plan.parts q
+    (not_ended (first_ends (parts_with h.plan.contents h.plan.parts) (answers_of h.outs.items)) _ q (sym (visit_by w h p) ∙ e))
+
+-- ---- what may be visited
+
+pub record MayVisit (w : World) (n seat : ℕ) : Type 0 where
+  pub held : Holder
+  pub part : Part
+  pub holds : w.holder ≡ Some held
+  pub next : next_visit w held ≡ Some part
+  pub here : IsTrue (part.seat == seat)
+
+the_part : (seat : ℕ) (o : Option Part) → IsTrue (is_part_at seat o) → (q : Part) × (o ≡ Some q) × IsTrue (q.seat == seat)
+the_part seat None h = absurd (true≢false (sym h))
+the_part seat (Some q) h = (q, refl, h)
+
+pub may_visit : (w : World) (n seat : ℕ) → IsTrue (may w (visit n seat)) → MayVisit w n seat
+unfolding may legal
+may_visit w n seat h = go w.holder refl (right_holds (is_caller n) _ (left_holds (legal w (visit n seat)) (is_run w (visit n seat)) h))
+  where
+    go : (o : Option Holder) → w.holder ≡ o → IsTrue (elim o [ None ↦ false | Some k ↦ k.caller == n && is_part_at seat (next_visit w k) ]) → MayVisit w n seat
+    go None e t = absurd (true≢false (sym t))
+    go (Some k) e t =
+        let q = the_part seat (next_visit w k) (right_holds (k.caller == n) (is_part_at seat (next_visit w k)) t) in
+        record { held = k; part = q.0; holds = e; next = q.1; here = q.2 }
+
+-- ---- the world after it
+
+abbrev visited_by : World → Holder → Option Aimed → World
+visited_by w k o = record w {
+  holder = Some (record k { outs = k.outs ++ elim o [ None ↦ done | Some a ↦ (pool_step (get_or w.pools a.seat closed) a.act).1 ] ∷ [] });
+  pools = elim o [ None ↦ w.pools | Some a ↦ set w.pools a.seat (pool_step (get_or w.pools a.seat closed) a.act).0 ];
+}
+
+pub after_visiting : (w : World) (n seat : ℕ) (k : Holder) (q : Part) → next_visit (record w { holder = Some k }) k ≡ Some q
+    → step (record w { holder = Some k }) (visit n seat) ≡ visited_by (record w { holder = Some k }) k (Some (aimed q))
+unfolding desk_after holder_after pools_after callers_after pool_answer act_of
+after_visiting w n seat k q e = ap (λ o. visited_by (record w { holder = Some k }) k (option_map aimed o)) e
+
+-- ---- by what the code did
+
+-- the holder that visits, with its next part
+pub record Visiting (w : Inside) (n seat : ℕ) : Type 0 where
+  pub holder : holder.Holder
+  pub part : Part
+  pub holds : w.holder ≡ Some holder
+  pub next : next_visit (inner w) (holder_of holder) ≡ Some part
+  pub here : IsTrue (part.seat == seat)
+
+held_by : (o : Option holder.Holder) (k : Holder) → option_map holder_of o ≡ Some k → (h : holder.Holder) × (o ≡ Some h) × (k ≡ holder_of h)
+held_by None k e = absurd cc
+held_by (Some h) k e = (h, refl, cc)
+
+pub visiting_in : (w : Inside) (r : Running) (n seat : ℕ) → world_of w ≡ r → IsTrue (may r.world (visit n seat)) → Visiting w n seat
+visiting_in w r n seat v m =
+    let here = may_visit (inner w) n seat (subst (λ (s : Running). IsTrue (may s.world (visit n seat))) (sym v) m) in
+    let held = held_by w.holder here.held here.holds in
+    record { holder = held.0; part = here.part; holds = held.1; next = ap (next_visit (inner w)) (sym held.2) ∙ here.next; here = here.here }
+
+pub meets_in : (w : Inside) (n seat : ℕ) (v : Visiting w n seat) → IsWhole w → Meets (length v.holder.outs.items) v.holder.plan.contents v.holder.plan.parts v.part
+meets_in w n seat v i = meets_next (inner w) v.holder v.part (held_in w v.holder v.holds i.holder).plan v.next
+
+pub ready_in : (w : Inside) (n seat : ℕ) (v : Visiting w n seat) → IsWhole w → IsReady v.holder
+ready_in w n seat v i =
+    let held = held_in w v.holder v.holds i.holder in
+    let m = meets_in w n seat v i in
+    record { left = some_left (length v.holder.outs.items) v.holder.plan.parts m.part m.rest m.ahead; parts = held.parts; made = held.made }
+
+answers_more : (outs : List Out) (o : Out) → answers_of (outs ++ o ∷ []) ≡ answers_of outs ++ answer_of o ∷ []
+answers_more [] o = refl
+answers_more (x ∷ outs) o = ap (answer_of x ∷◌) (answers_more outs o)
+
+abbrev seen_holder : ℕ → Who → Snapshot Command → List Out → Holder
+seen_holder n w x outs = record { caller = n; who = w; command = x.value; outs = answers_of outs }
+
+pub holder_visited : (h k : holder.Holder) (o : Out) → HasVisited h k o → holder_of k ≡ record (holder_of h) { outs = answers_of h.outs.items ++ answer_of o ∷ [] }
+holder_visited h k o v =
+    ap (λ n. seen_holder n k.who k.command k.outs.items) v.caller ∙ ap (λ w. seen_holder h.caller w k.command k.outs.items) v.who
+    ∙ ap (λ x. seen_holder h.caller h.who x k.outs.items) v.command ∙ ap (seen_holder h.caller h.who h.command) v.outs
+    ∙ ap (λ outs. record (holder_of h) { outs = outs }) (answers_more h.outs.items o)
+
+pub held_visited : (d : Desk) (h k : holder.Holder) (o : Out) → IsReady h → HasVisited h k o → IsHeld d h → IsHeld d k
+held_visited d h k o ready v held =
+    let count : length k.outs.items ≡ length h.outs.items + 1 = ap length v.outs ∙ length-append h.outs.items (o ∷ []) in
+    let left : length h.outs.items < length h.plan.parts = ready.left in
+    record {
+      plan = rw (v.who, v.command, v.plan) held.plan;
+      fits = rw v.plan held.fits;
+      parts = rw v.plan held.parts;
+      visited = rw (count, v.plan) (omega (arith, left));
+      made = v.made ∙ ap (λ n. stack_of (drop n h.plan.parts)) (sym count) ∙ ap (λ (p : Draft). stack_of (drop (length k.outs.items) p.parts)) (sym v.plan);
+      creds = rw (v.creds, v.who, v.command) held.creds;
+    }
+
+some_of_it : {X : Type 0} (o : Option X) → IsSome o → (x : X) × (o ≡ Some x)
+some_of_it None i = absurd (true≢false (sym i))
+some_of_it (Some x) i = (x, refl)
+
+-- the pools after it, by the part of the definitions
+pools_visited : (old new : List Hold) (p : code.Part) (c : Option Content) (q : Part) (o : Out) → q ≡ part_with c p → IsVisited p old new o
+    → new ≡ set old q.seat (pool_step (get_or old q.seat closed) (by_desk q.act)).0
+pools_visited old new p c q o e v =
+    v.after c ∙ ap (λ s. set old s (pool_step (get_or old s closed) (by_desk (part_with c p).act)).0) (sym (seat_with c p))
+    ∙ ap (λ (x : Part). set old x.seat (pool_step (get_or old x.seat closed) (by_desk x.act)).0) (sym e)
+
+answer_visited : (old new : List Hold) (p : code.Part) (c : Option Content) (q : Part) (o : Out) → q ≡ part_with c p → IsVisited p old new o
+    → answer_of o ≡ (pool_step (get_or old q.seat closed) (by_desk q.act)).1
+answer_visited old new p c q o e v =
+    v.answer c ∙ ap (λ s. (pool_step (get_or old s closed) (by_desk (part_with c p).act)).1) (sym (seat_with c p))
+    ∙ ap (λ (x : Part). (pool_step (get_or old x.seat closed) (by_desk x.act)).1) (sym e)
+
+-- what a visit leaves, of holder and pools
+pub record Visited (w : Inside) (n seat : ℕ) (holds : Option holder.Holder) (pools : List Hold) (out : Out) : Type 0 where
+  pub before : Visiting w n seat
+  pub meets : Meets (length before.holder.outs.items) before.holder.plan.contents before.holder.plan.parts before.part
+  pub holder : holder.Holder
+  pub holds_now : holds ≡ Some holder
+  pub one_more : HasVisited before.holder holder out
+  pub did : IsVisited meets.part w.pools.items pools out
+
+pub visited_in :
+    (w : Inside) (r : Running) (n seat : ℕ) (holds : Option holder.Holder) (pools : List Hold) (out : Out) → world_of w ≡ r → IsTrue (may r.world (visit n seat)) → IsWhole w
+    → IsSome holds → ((h : holder.Holder) → w.holder ≡ Some h → IfSome holds (λ k. HasVisited h k out))
+    → ((h : holder.Holder) (p : code.Part) (rest : List code.Part) → w.holder ≡ Some h → drop (length h.outs.items) h.plan.parts ≡ p ∷ rest → IsVisited p w.pools.items pools out)
+    → Visited w n seat holds pools out
+visited_in w r n seat holds pools out v m i some more did =
+    let before = visiting_in w r n seat v m in
+    let meets = meets_in w n seat before i in
+    let now = some_of_it holds some in
+    record {
+      before = before;
+      meets = meets;
+      holder = now.0;
+      holds_now = now.1;
+      one_more = subst (λ o. IfSome o (λ k. HasVisited before.holder k out)) now.1 (more before.holder before.holds);
+      did = did before.holder meets.part meets.rest before.holds meets.ahead;
+    }
+
+-- the world after a visit
+pub visited_so : (w : Inside) (r : Running) (n seat : ℕ) (holds : Option holder.Holder) (pools : List Hold) (out : Out) → world_of w ≡ r → Visited w n seat holds pools out
+    → with_steps (w.steps + 1) (record (inner w) { holder = option_map holder_of holds; pools = pools }) ≡ stepped r (visit n seat)
+unfolding stepped
+visited_so w r n seat holds pools out e v =
+    let h : holder.Holder = v.before.holder in
+    let q : Part = v.before.part in
+    let k : Holder = holder_of h in
+    let here : World = record (inner w) { holder = Some k } in
+    let same : here ≡ inner w = ap (λ o. record (inner w) { holder = option_map holder_of o }) (sym v.before.holds) in
+    let next : next_visit here k ≡ Some q = ap (λ x. next_visit x k) same ∙ v.before.next in
+    let outs : answer_of out ≡ (pool_step (get_or w.pools.items q.seat closed) (by_desk q.act)).1 = answer_visited w.pools.items pools v.meets.part v.meets.content q out v.meets.same v.did in
+    let after : pools ≡ set w.pools.items q.seat (pool_step (get_or w.pools.items q.seat closed) (by_desk q.act)).0 = pools_visited w.pools.items pools v.meets.part v.meets.content q out v.meets.same v.did in
+    let world : record (inner w) { holder = option_map holder_of holds; pools = pools } ≡ step (inner w) (visit n seat) =
+    ap (λ o. record (inner w) { holder = option_map holder_of o; pools = pools }) v.holds_now
+    ∙ ap (λ x. record (inner w) { holder = Some x; pools = pools }) (holder_visited h v.holder out v.one_more)
+    ∙ ap (λ a. record (inner w) { holder = Some (record k { outs = k.outs ++ a ∷ [] }); pools = pools }) outs
+    ∙ ap (λ ps. record (inner w) { holder = Some (record k { outs = k.outs ++ (pool_step (get_or w.pools.items q.seat closed) (by_desk q.act)).1 ∷ [] }); pools = ps }) after
+    ∙ sym (after_visiting (inner w) n seat k q next) ∙ ap (λ x. step x (visit n seat)) same in
+    ap (with_steps (w.steps + 1)) world ∙ ap (λ (s : Running). stepped s (visit n seat)) e
+
+told_out : (o : Out) → out_of (told (answer_of o)) ≡ o
+told_out out.Done = refl
+told_out (out.Slice number) = refl
+told_out (out.Refused why) = refl
+
+pub visited_said : (w : Inside) (r : Running) (n seat : ℕ) (holds : Option holder.Holder) (pools : List Hold) (out : Out) → world_of w ≡ r → Visited w n seat holds pools out
+    → answer.Visited out ≡ said (visit n seat) (says r.world (visit n seat))
+unfolding says pool_answer act_of
+visited_said w r n seat holds pools out e v =
+    let q : Part = v.before.part in
+    let outs : answer_of out ≡ (pool_step (get_or w.pools.items q.seat closed) (by_desk q.act)).1 = answer_visited w.pools.items pools v.meets.part v.meets.content q out v.meets.same v.did in
+    let asks : act_of (inner w) (visit n seat) ≡ Some (aimed q) = ap (λ o. elim (option_map holder_of o) [ None ↦ None | Some k ↦ option_map aimed (next_visit (inner w) k) ]) v.before.holds ∙ ap (option_map aimed) v.before.next in
+    sym (ap answer.Visited (
+    ap (λ (s : Running). out_of (told (pool_answer s.world (visit n seat)))) (sym e)
+    ∙ ap (λ o. out_of (told (elim o [ None ↦ done | Some a ↦ (pool_step (get_or w.pools.items a.seat closed) a.act).1 ]))) asks
+    ∙ ap (λ a. out_of (told a)) (sym outs) ∙ told_out out))
+
+pub whole_visited : (w : Inside) (n seat : ℕ) (holds : Option holder.Holder) (pools : Vec hold.Hold Global) (out : Out) → IsWhole w → w.steps < 2 ^ 54 → Visited w n seat holds pools.items out
+    → IsWhole (record w { holder = holds; pools = pools; steps = w.steps + 1 })
+whole_visited w n seat holds pools out i few v =
+    let q : Part = v.before.part in
+    let after : pools.items ≡ set w.pools.items q.seat (pool_step (get_or w.pools.items q.seat closed) (by_desk q.act)).0 = pools_visited w.pools.items pools.items v.meets.part v.meets.content q out v.meets.same v.did in
+    let visitable : IsVisitable v.meets.part = visitable_at (length v.before.holder.outs.items) v.before.holder.plan.parts v.meets.part v.meets.rest (held_in w v.before.holder v.before.holds i.holder).parts v.meets.ahead in
+    let quiet : is_settle (by_desk q.act) ≡ false = ap (λ (x : Part). is_settle (by_desk x.act)) v.meets.same ∙ visits_no_settle v.meets.content v.meets.part visitable in
+    record {
+      pools = ap length after ∙ length-set w.pools.items q.seat _ ∙ i.pools;
+      callers = i.callers;
+      below = subst (AllByRecursion (IsBelow (w.steps + 1))) (sym after) (below_after w.steps q.seat w.pools.items (by_desk q.act) quiet i.below);
+      ids = let ids : w.desk.next_id ≤ w.steps + 1 = i.ids in omega (arith, ids);
+      steps = omega (arith, few);
+      holder = subst (IsHeldBy w.desk) (sym v.holds_now) (held_visited w.desk v.before.holder v.holder out (ready_in w n seat v.before i) v.one_more (held_in w v.before.holder v.before.holds i.holder));
+    }
+
+-- a world that ran out of memory
+pub same_holder : (h k : holder.Holder) → IsSameHolder h k → holder_of k ≡ holder_of h
+same_holder h k v =
+    ap (λ n. seen_holder n k.who k.command k.outs.items) v.caller ∙ ap (λ w. seen_holder h.caller w k.command k.outs.items) v.who
+    ∙ ap (λ x. seen_holder h.caller h.who x k.outs.items) v.command ∙ ap (seen_holder h.caller h.who h.command) v.outs
+
+held_same : (d : Desk) (h k : holder.Holder) → IsSameHolder h k → IsHeld d h → IsHeld d k
+held_same d h k v held = record {
+  plan = rw (v.who, v.command, v.plan) held.plan;
+  fits = rw v.plan held.fits;
+  parts = rw v.plan held.parts;
+  visited = rw (v.outs, v.plan) held.visited;
+  made = v.made ∙ held.made ∙ ap (λ (outs : List Out). stack_of (drop (length outs) h.plan.parts)) (sym v.outs) ∙ ap (λ (p : Draft). stack_of (drop (length k.outs.items) p.parts)) (sym v.plan);
+  creds = rw (v.creds, v.who, v.command) held.creds;
+}
+
+-- what a visit leaves that couldn't be made
+pub record Unvisited (w : Inside) (holds : Option holder.Holder) : Type 0 where
+  pub before : holder.Holder
+  pub now : holder.Holder
+  pub held : w.holder ≡ Some before
+  pub holds_now : holds ≡ Some now
+  pub same : IsSameHolder before now
+
+pub unvisited_in : (w : Inside) (r : Running) (n seat : ℕ) (holds : Option holder.Holder) → world_of w ≡ r → IsTrue (may r.world (visit n seat))
+    → IsSome holds → ((h : holder.Holder) → w.holder ≡ Some h → IfSome holds (IsSameHolder h)) → Unvisited w holds
+unvisited_in w r n seat holds v m some same =
+    let before = visiting_in w r n seat v m in
+    let now = some_of_it holds some in
+    record { before = before.holder; now = now.0; held = before.holds; holds_now = now.1; same = subst (λ o. IfSome o (IsSameHolder before.holder)) now.1 (same before.holder before.holds) }
+
+pub unvisited_so : (w : Inside) (holds : Option holder.Holder) (pools : List Hold) → Unvisited w holds → pools ≡ w.pools.items
+    → with_steps w.steps (record (inner w) { holder = option_map holder_of holds; pools = pools }) ≡ world_of w
+unvisited_so w holds pools v e =
+    ap (λ o. with_steps w.steps (record (inner w) { holder = option_map holder_of o; pools = pools })) v.holds_now
+    ∙ ap (λ k. with_steps w.steps (record (inner w) { holder = Some k; pools = pools })) (same_holder v.before v.now v.same)
+    ∙ ap (λ ps. with_steps w.steps (record (inner w) { holder = Some (holder_of v.before); pools = ps })) e
+    ∙ ap (λ o. with_steps w.steps (record (inner w) { holder = option_map holder_of o })) (sym v.held)
+
+pub whole_unvisited : (w : Inside) (holds : Option holder.Holder) (pools : Vec hold.Hold Global) → IsWhole w → Unvisited w holds → pools.items ≡ w.pools.items → IsWhole (record w { holder = holds; pools = pools })
+whole_unvisited w holds pools i v e = record {
+  pools = ap length e ∙ i.pools;
+  callers = i.callers;
+  below = subst (AllByRecursion (IsBelow w.steps)) (sym e) i.below;
+  ids = i.ids;
+  steps = i.steps;
+  holder = subst (IsHeldBy w.desk) (sym v.holds_now) (held_same w.desk v.before v.now v.same (held_in w v.before v.held i.holder));
+}
+
+pub on_any_err : {X E : Type 0} (result : Result X E) {P : Type 0} → P → OnErr result P
+on_any_err (Ok x) p = tt
+on_any_err (Err e) p = p

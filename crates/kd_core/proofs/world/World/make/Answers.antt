@@ -1,0 +1,15 @@
+use Rattle.std.proofs.Common.{arith, length, ap, sym, subst}
+use Rattle.std.specs.List.{AllByRecursion}
+use Rattle.kd_core.specs.Counts.{IsBelow}
+use Rattle.kd_core.proofs.Counting.{closed_below, starts_low}
+use Rattle.kd_core.proofs.world.World.make.Goals as goal
+
+pub invariant_of-result : goal.invariant_of-result
+invariant_of-result c = record {
+  pools = ap length c.in_ok-closed_pools.ensures;
+  callers = ap length c.in_ok-strangers.ensures;
+  below = subst (AllByRecursion (IsBelow 0)) (sym c.in_ok-closed_pools.ensures) (closed_below 64 0);
+  ids = starts_low c.args.creator c.args.param.size c.args.param.hashes c.in_ok-make.field-0 c.in_ok-make.ensures.opening;
+  steps = omega arith;
+  holder = tt;
+}

@@ -1,0 +1,15 @@
+-- An act at the pool of a seat, among all pools; beyond the last seat every pool is closed.
+use Rattle.std.specs.Prelude.{List, Option, Some, None, get_or, set}
+use Rattle.kd_pool.specs.State.{Answer, Hold, done}
+use Rattle.kd_pool.specs.Steps.{pool_step}
+use Rattle.kd_core.specs.World.{Aimed, closed}
+
+-- the pools after it, where there is one
+abbrev pub acted : Option Aimed → List Hold → List Hold
+acted None pools = pools
+acted (Some p) pools = set pools p.seat (pool_step (get_or pools p.seat closed) p.act).0
+
+-- its pool's answer
+abbrev pub answered : Option Aimed → List Hold → Answer
+answered None pools = done
+answered (Some p) pools = (pool_step (get_or pools p.seat closed) p.act).1

@@ -1,0 +1,39 @@
+-- What contracts see of a world, and what it keeps.
+use Rattle.std.specs.Prelude.{◌≡◌, ◌≤◌, ◌+◌, ◌^◌, length, drop, Option, Some, None, option_map, Ok}
+use Rattle.std.specs.List.{AllByRecursion}
+use Rattle.kd_desk.specs.State.{Desk}
+use Rattle.kd_desk.specs.Drafts.{Fits, IsVisitable, drafted}
+use Rattle.kd_desk.specs.Outs.{answers_of}
+use Rattle.kd_core.specs.declared.holder.Holder as code
+use Rattle.kd_core.specs.declared.world.World.TheInside.{Inside}
+use Rattle.kd_core.specs.Counts.{IsBelow}
+use Rattle.kd_core.specs.Stack.{stack_of}
+use Rattle.kd_core.specs.World.{Holder, planned, creds_after}
+use Rattle.kd_core.specs.Running.{Running}
+
+abbrev pub holder_of : code.Holder → Holder
+holder_of h = record { caller = h.caller; who = h.who; command = h.command.value; outs = answers_of h.outs.items }
+
+abbrev pub world_of : Inside → Running
+world_of w = record { world = record { desk = w.desk; holder = option_map holder_of w.holder; pools = w.pools.items; callers = w.callers.items }; steps = w.steps }
+
+-- the holder's plan is that of its command, for the desk as it is; the pools that it opens are made
+pub record IsHeld (d : Desk) (h : code.Holder) : Type 0 where
+  pub plan : planned d h.who h.command.value ≡ Ok (drafted d h.plan)
+  pub fits : Fits d h.plan.change
+  pub parts : AllByRecursion IsVisitable h.plan.parts
+  pub visited : length h.outs.items ≤ length h.plan.parts
+  pub made : h.made ≡ stack_of (drop (length h.outs.items) h.plan.parts)
+  pub creds : h.creds ≡ creds_after h.who.creds h.command.value
+
+abbrev pub IsHeldBy : Desk → Option code.Holder → Type 0
+IsHeldBy d None = Unit {0}
+IsHeldBy d (Some h) = IsHeld d h
+
+pub record IsWhole (w : Inside) : Type 0 where
+  pub pools : length w.pools.items ≡ 64
+  pub callers : length w.callers.items ≡ 64
+  pub below : AllByRecursion (IsBelow w.steps) w.pools.items
+  pub ids : w.desk.next_id ≤ w.steps + 1
+  pub steps : w.steps ≤ 2 ^ 54
+  pub holder : IsHeldBy w.desk w.holder

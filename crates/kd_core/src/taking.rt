@@ -1,0 +1,83 @@
+//! A caller takes the desk.
+
+ghost use Rattle.std.specs.Prelude.{◌≡◌, ◌<◌, ◌^◌, IfOk, IsTrue, OnErr, OnOk};
+ghost use Rattle.kd_core.specs.Planned.{IsPlanned};
+ghost use Rattle.kd_core.specs.Running.{may, said, stepped};
+ghost use Rattle.kd_core.specs.World.{caller_at, creds_after, says, take};
+
+use crate::event::Answer;
+use crate::holder::Holder;
+use crate::made::Made;
+use crate::world::World;
+use kd_desk::{Plan, Who};
+use kd_types::{Creds, Refusal};
+use kd_wire::Command;
+use std::alloc::{AllocError, Global};
+use std::snapshot::Snapshot;
+
+/// Who a caller is by its own word when the command is done.
+fn creds_after(creds: Creds, command: &Command) -> Creds
+    ensures { result ≡ creds_after creds command.now }
+{
+    match command {
+        Command::Enter { creds } => *creds,
+        _ => creds,
+    }
+}
+
+impl World {
+    /// What the command comes to.
+    fn planned(
+        &self,
+        alloc: Global,
+        caller: u64,
+        who: &Who,
+        command: Command,
+    ) -> Result<Plan, Refusal>
+        requires may { IsTrue (may self.now.world (take caller command)) }
+        requires who { who.now ≡ (caller_at self.now.world caller).who }
+        ensures { IsPlanned self.now.world.desk who.now command result }
+    {
+        self.desk.plan(alloc, who, command)
+    }
+
+    /// The caller takes the desk with a command that is run; nobody holds it. Where the command is refused the desk stays free.
+    pub(crate) fn take(
+        &mut self,
+        alloc: Global,
+        caller: u64,
+        command: Command,
+    ) -> Result<Answer, AllocError>
+        requires may { IsTrue (may self.old.world (take caller command)) }
+        requires steps { self.old.steps < 2 ^ 54 }
+        ensures ok { OnOk result (self.new ≡ stepped self.old (take caller command)) }
+        ensures answer { IfOk result (λ a. a ≡ said (take caller command) (says self.old.world (take caller command))) }
+        ensures err { OnErr result (self.new ≡ self.old) }
+    {
+        let who = self.caller(caller).who;
+        let creds = creds_after(who.creds, &command);
+        let given = Snapshot::of(&command);
+        let plan = match self.planned(alloc, caller, &who, command) {
+            Ok(plan) => plan,
+            Err(why) => {
+                if why == Refusal::OutOfMemory {
+                    return Err(AllocError);
+                }
+                self.steps += 1;
+                return Ok(Answer::Refused(why));
+            }
+        };
+        let made = Made::of(alloc, &plan)?;
+        self.holder = Some(Holder {
+            caller,
+            who,
+            command: given,
+            creds,
+            plan,
+            made,
+            outs: Vec::new(alloc),
+        });
+        self.steps += 1;
+        Ok(Answer::Taken)
+    }
+}

@@ -1,0 +1,82 @@
+//! A world: one desk, its holder, 64 pools and 64 callers.
+
+ghost use Rattle.std.specs.Prelude.{◌≡◌, IfOk, replicate};
+ghost use Rattle.kd_core.specs.World.{closed, new_world, stranger};
+
+use crate::caller::Caller;
+use crate::hold::Hold;
+use crate::holder::Holder;
+use kd_bloom::Param;
+use kd_desk::{Desk, SEATS};
+use std::alloc::{AllocError, Global};
+use std::marker::Model;
+
+/// The callers of a world, numbered from 1.
+pub(crate) const CALLERS: usize = 64;
+
+/// A world, which runs one event after the other.
+#[derive(Drop)]
+pub struct World {
+    pub(crate) desk: Desk,
+    pub(crate) holder: Option<Holder>,
+    /// By seat.
+    pub(crate) pools: Vec<Hold>,
+    /// By number, the first being 1.
+    pub(crate) callers: Vec<Caller>,
+    pub(crate) steps: u64,
+}
+
+impl Model for World {
+    ghost use Rattle.kd_core.specs.Held.{IsWhole, world_of};
+    ghost use Rattle.kd_core.specs.Running as running;
+
+    ghost Value = { running.Running };
+
+    ghost view = { world_of };
+
+    ghost invariant = { IsWhole };
+}
+
+fn closed_pools(alloc: Global) -> Result<Vec<Hold>, AllocError>
+    ensures { IfOk result (λ pools. pools.items ≡ replicate 64 closed) }
+{
+    let mut pools = Vec::with_capacity(alloc, SEATS)?;
+    'seats: for _ in 0..SEATS {
+        pools.push(Hold::closed())?;
+    }
+    Ok(pools)
+}
+
+fn strangers(alloc: Global) -> Result<Vec<Caller>, AllocError>
+    ensures { IfOk result (λ callers. callers.items ≡ replicate 64 stranger) }
+{
+    let mut callers = Vec::with_capacity(alloc, CALLERS)?;
+    'numbers: for _ in 0..CALLERS {
+        callers.push(Caller::stranger(alloc)?)?;
+    }
+    Ok(callers)
+}
+
+impl World {
+    /// The world of a new bus, by the user who makes it and the parameter of its filters: 64 callers of whom nothing is known, and no
+    /// connection.
+    #[tactic(auto, unfolding(crate::specs::World::new_world, kd_desk::specs::State::opening))]
+    pub fn make(alloc: Global, creator: u32, param: Param) -> Result<World, AllocError>
+        ensures { IfOk result (λ w. w ≡ record { world = new_world creator param.size param.hashes; steps = 0 }) }
+    {
+        Ok(World {
+            desk: Desk::make(alloc, creator, param)?,
+            holder: None,
+            pools: closed_pools(alloc)?,
+            callers: strangers(alloc)?,
+            steps: 0,
+        })
+    }
+
+    /// How many events it has run.
+    pub fn steps(&self) -> u64
+        ensures { result ≡ self.now.steps }
+    {
+        self.steps
+    }
+}
