@@ -6,6 +6,8 @@ mod bloom;
 #[cfg(test)]
 mod configuration;
 #[cfg(test)]
+mod core;
+#[cfg(test)]
 mod desk;
 #[cfg(test)]
 mod endpoints;
