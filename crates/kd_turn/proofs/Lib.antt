@@ -1,13 +1,8 @@
 pub mod Changed
 pub mod Moved
-pub mod Steps
 pub mod Passes
-pub mod Hands
-pub mod Marks
 pub mod Made
 pub mod Tells
-pub mod Spread
-pub mod Closed
-pub mod Finals
+pub mod Hands
 pub mod Settled
 pub mod Unlent

@@ -1,194 +1,219 @@
--- What stays of the rule when one pass moves at one lock.
-use Rattle.std.proofs.Common.{◌≡◌, ℕ, ◌+◌, ◌*◌, ◌^◌, ◌<◌, ◌≤◌, ◌≢◌, true, false, List, [], length, get_or, set, subst, sym, ap, ◌∙◌, ⊎_elim, arith, length-set, get_or-set_other, get_or-set_same}
-use Rattle.std.specs.Prelude.{Some}
-use mathlib.Core.Option.{some, some-injective}
-use mathlib.Core.List.{IsPrefix}
+-- What the rule says of one pass, and the one law of all steps: a pass that moves at one lock leaves the rest of the rule standing.
+use Rattle.std.proofs.Common.{◌≡◌, ℕ, ◌+◌, ◌*◌, ◌^◌, ◌<◌, ◌≤◌, ◌≢◌, Bool, true, false, cond, List, [], length, get_or, set, subst, sym, refl, ap, ◌∙◌, arith, length-set, get_or-set_other, get_or-set_same}
+use Rattle.std.specs.Prelude.{Option, Some, None}
+use Rattle.std.proofs.lemmas.List.{get_or_past}
+use mathlib.Core.Option.{some}
 use mathlib.Core.Option as maybe
-use mathlib.Core.Logic.{dite}
-use native.Mathlib.Decide.{ℕ_discrete}
 use lib.ListN.{get_elem?}
 use Rattle.atomic_table.specs.Table.{State}
-use Rattle.atomic_table.proofs.Lists.{at_set, set_here, set_else}
 use Rattle.kd_turn.specs.declared.views.Cell.{Cell}
 use Rattle.kd_turn.specs.declared.views.Part.{Part}
 use Rattle.kd_turn.specs.declared.views.View.{View}
-use Rattle.kd_turn.specs.Lists.{part, hand, blank, made_by}
+use Rattle.kd_turn.specs.Lists.{part, hand, blank, made_by, at_place, is_at, opening_view}
 use Rattle.kd_turn.specs.World.{World}
-use Rattle.kd_turn.specs.Rule.{spent, IsView, Kept, SeatOk, LockOk, Opens, Turning}
-use Rattle.kd_turn.proofs.Changed.{in_range, back, forth, turns_set, not_both}
+use Rattle.kd_turn.specs.Told.{Fits, Stood}
+use Rattle.kd_turn.specs.Rule.{Lock, spent, turns_of, opened_by, world_of, IsPass, IsBack, IsHome, SeatOk, LockOk, Turning}
+use Rattle.kd_turn.proofs.Changed.{read, every, each_set, place_here, place_else, true_or_not, not_both, is_at_some, some_if_at, turns_set, turns_below}
 
--- the world after differs from the one before at the lock l and in what the pass id has alone
-pub record Differs {E : Type 0} (id l : ℕ) (a b : World E) : Type 0 where
-  pub lists : (k : ℕ) → k ≢ l → b.told.lists k ≡ a.told.lists k
-  pub hands : (j k : ℕ) → j ≢ id → b.hands j k ≡ a.hands j k
-  pub swept : (j k : ℕ) → j ≢ id → b.swept j k ≡ a.swept j k
-  pub other_swept : (k : ℕ) → k ≢ l → b.swept id k ≡ a.swept id k
+-- a view that is live was not taken in
+live_one : {E : Type 0} (b : Bool) (v u : View E) → v.live ≡ true → v ≡ cond b spent u → (v ≡ u) × (b ≡ false)
+live_one {E} true v u live e = absurd (not_both v.live live (ap (λ (q : View E). q.live) e))
+live_one false v u live e = (e, refl)
 
--- the pass has done nothing that its view at other locks tells
-pub record Moves {E : Type 0} (l : ℕ) (v w : View E) (p : Part E) : Type 0 where
-  pub parts : w.parts ≡ set v.parts l p
-  pub hands : length w.hands ≡ length v.hands
-  pub name : w.name ≡ v.name
-  pub live : w.live ≡ true
-  pub back_is : w.back ≡ v.back
-  pub made : w.made ≡ v.made
-  pub turns : v.turns ≤ w.turns
-  pub most : w.turns ≤ 2 ^ 43
+few_turns : {E : Type 0} (b : Bool) (u : View E) → u.turns ≤ 2 ^ 43 → (cond b spent u).turns ≤ 2 ^ 43
+few_turns b u h = grind arith
 
-module _ {X E : Type 0} (stands : ℕ → List (ℕ × E) → X → Type 0) (fact : World E → Type 0) (most : ℕ)
-    (s : State (Cell X E) (View E)) (r : Turning stands fact most s) (id l : ℕ) (v w : View E) (p : Part E) (at : get_elem? s.views id ≡ some v) (live : v.live ≡ true) (near : l < length s.homes) where
-  module _ (parts_are : w.parts ≡ set v.parts l p) where
-    pub there : part w l ≡ p
-    there = let n = (r.named id v at).parts live in let h : l < length v.parts = omega arith in ap (λ (ps : List (Part E)). get_or ps l blank) parts_are ∙ get_or-set_same v.parts l p blank h
+-- what a change of the element at one place leaves
+pub same_at : {A B : Type 0} (g : A → B) (f : ℕ → A) (l : ℕ) (a : A) → g a ≡ g (f l) → (k : ℕ) → g (f k) ≡ g (at_place f l a k)
+same_at g f l a e = every (λ k x. g (f k) ≡ g x) f l a (sym e) (λ _ _. refl)
 
-    pub elsewhere : (k : ℕ) → k ≢ l → part w k ≡ part v k
-    elsewhere k n = ap (λ (ps : List (Part E)). get_or ps k blank) parts_are ∙ get_or-set_other v.parts l k p blank n
+-- The world u is the old one, but for the lock l and the pass id, of which it has these
+pub record Becomes {E : Type 0} (id l : ℕ) (old u : World E) (lock : Lock E) (hand : ℕ → List ℕ) (swept : List (ℕ × ℕ)) : Type 0 where
+  pub list_here : u.told.lists l ≡ lock.list
+  pub list_else : (k : ℕ) → k ≢ l → u.told.lists k ≡ old.told.lists k
+  pub marks_here : u.marks l ≡ lock.marks
+  pub marks_else : (k : ℕ) → k ≢ l → u.marks k ≡ old.marks k
+  pub hand_here : (k : ℕ) → u.hands id k ≡ hand k
+  pub hand_else : (j k : ℕ) → j ≢ id → u.hands j k ≡ old.hands j k
+  pub swept_here : u.swept id l ≡ swept
+  pub swept_else : (j k : ℕ) → (j ≡ id → k ≡ l → ⊥) → u.swept j k ≡ old.swept j k
+  pub holder_zero : l ≡ 0 → u.holder ≡ lock.holder
+  pub holder_else : l ≢ 0 → u.holder ≡ old.holder
 
-    pub holds_same : p.holds ≡ (part v l).holds → (k : ℕ) → (part w k).holds ≡ (part v k).holds
-    holds_same same k = dite (ℕ_discrete k l)
-        (λ e. subst (λ (m : ℕ). (part w m).holds ≡ (part v m).holds) (sym e) (ap (λ (q : Part E). q.holds) there ∙ same))
-        (λ n. ap (λ (q : Part E). q.holds) (elsewhere k n))
+-- what the world has of a view
+abbrev pub tells : {E : Type 0} → View E → List (Part E) × List (List ℕ) × List (ℕ × ℕ × E)
+tells v = (v.parts, v.hands, v.opened)
 
-    -- no two passes have the same ticket, where nobody else has this pass's
-    pub apart_new : ((n : ℕ) (j : ℕ) (u : View E) → p.ticket ≡ Some n → j ≢ id → get_elem? s.views j ≡ some u → (part u l).ticket ≡ Some n → ⊥)
-        → (i j n : ℕ) (a b : View E) → get_elem? (set s.views id w) i ≡ some a → get_elem? (set s.views id w) j ≡ some b → (part a l).ticket ≡ Some n → (part b l).ticket ≡ Some n → i ≡ j
-    apart_new fresh i j n a b ai bj ta tb =
-        let mine : (u : View E) → w ≡ u → (part u l).ticket ≡ Some n → p.ticket ≡ Some n = λ u e t. ap (λ (q : Part E). q.ticket) (sym there) ∙ (ap (λ (q : View E). (part q l).ticket) e ∙ t) in
-        ⊎_elim
-        (λ x. ⊎_elim
-        (λ y. x.0 ∙ sym y.0)
-        (λ y. absurd (fresh n j b (mine a x.1 ta) y.0 y.1 tb))
-        (at_set s.views id j w b bj))
-        (λ x. ⊎_elim
-        (λ y. absurd (fresh n i a (mine b y.1 tb) x.0 x.1 ta))
-        (λ y. (r.each_lock l near).apart i j n a b x.1 y.1 ta tb)
-        (at_set s.views id j w b bj))
-        (at_set s.views id i w a ai)
+pub fact_same : {E : Type 0} (fact : World E → Type 0) (locks : ℕ → Lock E) (passes passes' : ℕ → View E) → ((j : ℕ) → tells (passes j) ≡ tells (passes' j))
+    → fact (world_of locks passes) → fact (world_of locks passes')
+fact_same fact locks passes passes' same = subst fact (λ i. record {
+  told = record { lists = λ l. (locks l).list; opened = opened_by (locks 0).holder (λ j. (same j i).2) };
+  holder = (locks 0).holder;
+  hands = λ j k. get_or (same j i).1 k [];
+  marks = λ l. (locks l).marks;
+  swept = λ j k. (get_or (same j i).0 k blank).swept;
+})
 
-  module _ (m : Moves l v w p) (w' : World E) (d : Differs id l r.world w') (words' : List ℕ) (homes' : List (maybe.Option (Cell X E)))
-      (as_long : length homes' ≡ length s.homes)
-      (same_words : (k : ℕ) → k < length s.homes → k ≢ l → (get_or words' k 0 ≡ get_or s.words k 0) × (get_or words' (length s.homes + k) 0 ≡ get_or s.words (length s.homes + k) 0))
-      (same_homes : (k : ℕ) → k ≢ l → get_elem? homes' k ≡ get_elem? s.homes k) where
-    abbrev views' : List (View E)
-    views' = set s.views id w
+module _ {X E : Type 0} (stands : ℕ → List (ℕ × E) → X → Type 0) (fact : World E → Type 0) (most : ℕ) (s : State (Cell X E) (View E))
+    (r : Turning stands fact most s) where
+  -- what the rule says of the pass id and the lock l, where the pass was not taken in
+  pub record Here (id l : ℕ) : Type 0 where
+    pub at : get_elem? s.views id ≡ some (r.passes id)
+    pub free : r.retired id ≡ false
+    pub near : l < r.many
+    pub slots : length s.homes ≡ r.many
+    pub wide : length s.words ≡ 6 * r.many
+    pub low : (r.locks l).next ≤ 2 ^ 53
+    pub own : IsPass r.many r.count id (r.passes id)
+    pub old : SeatOk (r.locks l) id (part (r.passes id) l)
+    pub ok : LockOk stands r.many (turns_of s.views) s.words s.homes l (r.locks l)
 
-    lock_stays : (k : ℕ) → k < length s.homes → k ≢ l → LockOk stands s.words s.homes s.views (r.world.told.lists k) k → LockOk stands words' homes' views' (r.world.told.lists k) k
-    lock_stays k lt n ok =
-        let f : View E → Part E = λ u. part u k in
-        let is = elsewhere m.parts k n in
-        let same = same_words k lt n in
-        let t = turns_set s.views id v w at in
-        let enough = ok.enough in
-        let more = m.turns in
-        let word : get_or words' k 0 ≡ get_or s.words k 0 = same.0 in
-        let behind = ok.behind in
-        record {
-          behind = omega arith;
-          serves = ap (λ (m : ℕ). get_or words' (m + k) 0) as_long ∙ (same.1 ∙ ok.serves);
-          enough = omega arith;
-          apart = λ i j m a b ai bj ta tb.
-              let x = back f s.views id v w at is i a ai in
-              let y = back f s.views id v w at is j b bj in
-              ok.apart i j m x.0 y.0 x.1 y.1 (ap (λ (q : Part E). q.ticket) (sym x.2) ∙ ta) (ap (λ (q : Part E). q.ticket) (sym y.2) ∙ tb);
-          home = λ free.
-              let h = ok.home (λ j t' e. let u = forth f s.views id v w at is j t' e in ap (λ (q : Part E). q.holds) (sym u.2) ∙ free j u.0 u.1) in
-              (h.0, same_homes k n ∙ h.1, h.2);
-          unborn = λ j le. ok.unborn j (let e = length-set s.views id w in omega arith);
-        }
+  -- a live view is what the pass knows
+  pub at_pass : (id : ℕ) (v : View E) → get_elem? s.views id ≡ some v → v.live ≡ true → (Q : View E → Type 0)
+      → (get_elem? s.views id ≡ some (r.passes id) → r.retired id ≡ false → Q (r.passes id)) → Q v
+  at_pass id v at live Q h =
+      let is = live_one (r.retired id) v (r.passes id) live (sym (read s.views id v (opening_view r.many id) at).1 ∙ r.shown id) in
+      subst Q (sym is.0) (h (at ∙ ap some is.0) is.1)
 
-    seat_stays : (j k : ℕ) (u : View E) → k < length s.homes → k ≢ l → get_elem? views' j ≡ some u → u.live ≡ true → SeatOk (get_or words' k 0) (r.world.told.lists k) j (part u k)
-    seat_stays j k u lt n e alive =
-        let F : ℕ → ℕ → Part E → Type 0 = λ i word q. SeatOk word (r.world.told.lists k) i q in
-        let word = sym (same_words k lt n).0 in
-        ⊎_elim
-        (λ h. let old = r.each_seat id v k at live lt in
-        subst (λ (i : ℕ). F i (get_or words' k 0) (part u k)) (sym h.0) (subst (λ (m : ℕ). F id m (part u k)) word (subst (F id (get_or s.words k 0)) (sym (elsewhere m.parts k n) ∙ ap (λ (t : View E). part t k) h.1) old)))
-        (λ h. subst (λ (m : ℕ). F j m (part u k)) word (r.each_seat j u k h.1 alive lt))
-        (at_set s.views id j w u e)
+  -- a pass that was not made yet has seen nothing
+  pub unborn : (j : ℕ) → r.count ≤ j → (opening_view r.many j ≡ r.passes j) × (r.retired j ≡ false)
+  unborn j le =
+      live_one (r.retired j) (opening_view r.many j) (r.passes j) refl (sym (get_or_past s.views j (opening_view r.many j) (omega arith)) ∙ r.shown j)
 
-    pub moved : length words' ≡ length s.words
-        → ((k : ℕ) → hand w k ≡ w'.hands id k) → p.swept ≡ w'.swept id l → (p.holds ≡ false → w'.swept id l ≡ [])
-        → SeatOk (get_or words' l 0) (w'.told.lists l) id p
-        → ((j : ℕ) (u : View E) → j ≢ id → get_elem? s.views j ≡ some u → u.live ≡ true → SeatOk (get_or words' l 0) (w'.told.lists l) j (part u l))
-        → ((j : ℕ) → j ≢ id → made_by j (w'.told.lists l) ≡ made_by j (r.world.told.lists l)) → ((b : List (ℕ × E)) → IsPrefix b (r.world.told.lists l) → IsPrefix b (w'.told.lists l))
-        → ((k q : ℕ) → k < length s.homes → q < 4 → get_or words' (2 * length s.homes + (4 * k + q)) 0 ≡ w'.marks k q)
-        → LockOk stands words' homes' views' (w'.told.lists l) l
-        → fact w'
-        → Opens views' w'.told.opened w'.holder
-        → Turning stands fact most record { words = words'; homes = homes'; views = views' }
-    moved wide in_hand in_swept idle mine others by_others grows marks lock tied opens =
-        let long : length views' ≡ length s.views = length-set s.views id w in
-        let far = in_range s.views id v at in
-        record {
-          world = w';
-          wide = let a = r.wide in omega arith;
-          few = let a = r.few in omega arith;
-          fits = r.fits;
-          named = λ j u e. ⊎_elim
-              (λ h. let old = r.named id v at in
-              subst (IsView (length homes') j) h.1 record {
-                turns = m.most;
-                name = λ _. m.name ∙ (old.name live ∙ sym h.0);
-                parts = λ _. ap length m.parts ∙ (length-set v.parts l p ∙ (old.parts live ∙ sym as_long));
-                hands = λ _. m.hands ∙ (old.hands live ∙ sym as_long);
-                gone = λ z. absurd (not_both w.live m.live z);
-              })
-              (λ h. let old = r.named j u h.1 in record { turns = old.turns; name = old.name; parts = λ z. old.parts z ∙ sym as_long; hands = λ z. old.hands z ∙ sym as_long; gone = old.gone })
-              (at_set s.views id j w u e);
-          each_lock = λ k lt. let lt' : k < length s.homes = omega arith in dite (ℕ_discrete k l)
-              (λ e. subst (λ (m : ℕ). LockOk stands words' homes' views' (w'.told.lists m) m) (sym e) lock)
-              (λ n. subst (λ (g : List (ℕ × E)). LockOk stands words' homes' views' g k) (sym (d.lists k n)) (lock_stays k lt' n (r.each_lock k lt')));
-          each_seat = λ j u k e alive lt. let lt' : k < length s.homes = omega arith in dite (ℕ_discrete k l)
-              (λ eq. subst (λ (m : ℕ). SeatOk (get_or words' m 0) (w'.told.lists m) j (part u m)) (sym eq)
-              (⊎_elim
-              (λ h. subst (λ (i : ℕ). SeatOk (get_or words' l 0) (w'.told.lists l) i (part u l)) (sym h.0) (subst (SeatOk (get_or words' l 0) (w'.told.lists l) id) (sym (there m.parts) ∙ ap (λ (t : View E). part t l) h.1) mine))
-              (λ h. others j u h.0 h.1 alive)
-              (at_set s.views id j w u e)))
-              (λ n. subst (λ (g : List (ℕ × E)). SeatOk (get_or words' k 0) g j (part u k)) (sym (d.lists k n)) (seat_stays j k u lt' n e alive));
-          taken_in = λ j k u b e eb.
-              let from : Kept s.views (length s.homes) r.world.told.lists b = ⊎_elim
-              (λ h. r.taken_in id k v b at (ap (λ (t : List (ℕ × List (Part E))). get_elem? t k) (sym m.back_is ∙ ap (λ (t : View E). t.back) h.1) ∙ eb))
-              (λ h. r.taken_in j k u b h.1 eb) (at_set s.views id j w u e) in
-              let other : b.0 ≢ id = λ z. let same : v ≡ spent = some-injective v spent (sym at ∙ (ap (get_elem? s.views) (sym z) ∙ from.gone)) in not_both v.live live (ap (λ (t : View E). t.live) same) in
-              record {
-                gone = set_else s.views id b.0 w other ∙ from.gone;
-                wide = from.wide ∙ sym as_long;
-                begins = λ n lt. let lt' : n < length s.homes = omega arith in dite (ℕ_discrete n l)
-                    (λ z. subst (λ (q : ℕ). IsPrefix (get_or b.1 q blank).seen (w'.told.lists q)) (sym z) (grows (get_or b.1 l blank).seen (from.begins l near)))
-                    (λ z. subst (IsPrefix (get_or b.1 n blank).seen) (sym (d.lists n z)) (from.begins n lt'));
-                mine = λ n lt. let lt' : n < length s.homes = omega arith in dite (ℕ_discrete n l)
-                    (λ z. subst (λ (q : ℕ). made_by b.0 (w'.told.lists q) ≡ (get_or b.1 q blank).own) (sym z) (by_others b.0 other ∙ from.mine l near))
-                    (λ z. ap (made_by b.0) (d.lists n z) ∙ from.mine n lt');
-              };
-          beyond = λ k le. d.lists k (λ z. omega arith) ∙ r.beyond k (omega arith);
-          each_mark = λ k q lt qt. ap (λ (n : ℕ). get_or words' (2 * n + (4 * k + q)) 0) as_long ∙ marks k q (omega arith) qt;
-          in_views = record {
-            hands = λ j k u e alive. ⊎_elim
-                (λ h. ap (λ (t : View E). hand t k) (sym h.1) ∙ (in_hand k ∙ ap (λ (i : ℕ). w'.hands i k) (sym h.0)))
-                (λ h. r.in_views.hands j k u h.1 alive ∙ sym (d.hands j k h.0))
-                (at_set s.views id j w u e);
-            no_hand = λ j k le. d.hands j k (λ z. omega arith) ∙ r.in_views.no_hand j k (omega arith);
-            swept = λ j k u e alive. ⊎_elim
-                (λ h. ap (λ (t : View E). (part t k).swept) (sym h.1) ∙ (dite (ℕ_discrete k l)
-                (λ z. subst (λ (q : ℕ). (part w q).swept ≡ w'.swept id q) (sym z) (ap (λ (q : Part E). q.swept) (there m.parts) ∙ in_swept))
-                (λ z. ap (λ (q : Part E). q.swept) (elsewhere m.parts k z) ∙ (r.in_views.swept id k v at live ∙ sym (d.other_swept k z)))
-                ∙ ap (λ (i : ℕ). w'.swept i k) (sym h.0)))
-                (λ h. r.in_views.swept j k u h.1 alive ∙ sym (d.swept j k h.0))
-                (at_set s.views id j w u e);
-            unswept = λ j k free. dite (ℕ_discrete j id)
-                (λ h.
-                let idle_now : (part w k).holds ≡ false = free w (ap (get_elem? views') h ∙ set_here s.views id w far) in
-                ap (λ (i : ℕ). w'.swept i k) h ∙ dite (ℕ_discrete k l)
-                (λ z. ap (w'.swept id) z ∙ idle (ap (λ (q : Part E). q.holds) (sym (there m.parts)) ∙ (ap (λ (q : ℕ). (part w q).holds) (sym z) ∙ idle_now)))
-                (λ z. d.other_swept k z ∙ r.in_views.unswept id k (λ u e. let same : v ≡ u = some-injective v u (sym at ∙ e) in
-                ap (λ (t : View E). (part t k).holds) (sym same) ∙ (ap (λ (q : Part E). q.holds) (sym (elsewhere m.parts k z)) ∙ idle_now))))
-                (λ h. d.swept j k h ∙ r.in_views.unswept j k (λ u e. free u (set_else s.views id j w h ∙ e)));
+  -- what is shown where a view was set
+  pub shown_set : (id : ℕ) → get_elem? s.views id ≡ some (r.passes id) → r.retired id ≡ false → (w : View E) (j : ℕ)
+      → get_or (set s.views id w) j (opening_view r.many j) ≡ cond (r.retired j) spent (at_place r.passes id w j)
+  shown_set id at free w = every (λ j u. get_or (set s.views id w) j (opening_view r.many j) ≡ cond (r.retired j) spent u) r.passes id w
+      (get_or-set_same s.views id w (opening_view r.many id) (read s.views id (r.passes id) w at).0 ∙ sym (ap (λ b. cond b spent w) free))
+      (λ j n. get_or-set_other s.views id j w (opening_view r.many j) n ∙ r.shown j)
+
+  -- no word reaches its end
+  pub below : (l : ℕ) → l < r.many → (r.locks l).next ≤ 2 ^ 53
+  below l near =
+      let a = (r.each_lock l near).enough in
+      let b = turns_below s.views (2 ^ 43) (λ j v e. subst (λ (u : View E). u.turns ≤ 2 ^ 43) (sym (r.shown j) ∙ (read s.views j v (opening_view r.many j) e).1)
+      (few_turns (r.retired j) (r.passes j) (r.each_pass j).turns)) in
+      let c = r.few in let d = r.fits in let e = r.views in omega arith
+
+  -- where a pass has the ticket that is served, nobody else holds the lock
+  pub alone : (id l j : ℕ) → (part (r.passes id) l).ticket ≡ Some (length (r.locks l).list) → (part (r.passes j) l).holds ≡ true → j ≡ id
+  alone id l j t h = let n : ℕ = length (r.locks l).list in sym ((r.each_seat j l).waits n ((r.each_seat j l).here h).0).2 ∙ ((r.each_seat id l).waits n t).2
+
+  -- the world of the rule is in keeping with what each pass knows
+  pub fits_of : (id : ℕ) → Fits (r.passes id) (world_of r.locks r.passes)
+  fits_of id =
+      let seat : (k : ℕ) → SeatOk (r.locks k) id (part (r.passes id) k) = r.each_seat id in
+      record {
+        begins = λ k. (seat k).begins;
+        mine = λ k. ap (λ (j : ℕ). made_by j (r.locks k).list) (r.each_pass id).name ∙ (seat k).mine;
+        whole = λ k h. ((seat k).here h).1;
+        opened = λ h. let is = some_if_at id (r.locks 0).holder (sym (seat 0).holds ∙ h) in
+            (sym (ap (λ (o : Option ℕ). opened_by o (λ j. (r.passes j).opened)) is), is ∙ ap (λ (j : ℕ). Some j) (sym (r.each_pass id).name));
+        closed = λ h e. not_both (is_at id (r.locks 0).holder) (is_at_some id (r.locks 0).holder (e ∙ ap (λ (j : ℕ). Some j) (r.each_pass id).name))
+            (sym (seat 0).holds ∙ h);
+        hands = λ k. ap (λ (j : ℕ). hand (r.passes j) k) (sym (r.each_pass id).name);
+        swept = λ k. ap (λ (j : ℕ). (part (r.passes j) k).swept) (sym (r.each_pass id).name);
+        sole = λ k h i ne. (r.each_seat i k).unswept (true_or_not (part (r.passes i) k).holds
+            (λ t. ne (alone id k i ((seat k).here h).0 t ∙ sym (r.each_pass id).name)));
+      }
+
+-- The pass id moves at the lock l: it knows p of it now, has these hands, open entries, turns and steps, and the lock comes to `lock`
+module _ {X E : Type 0} (stands : ℕ → List (ℕ × E) → X → Type 0) (fact : World E → Type 0) (most : ℕ) (s : State (Cell X E) (View E))
+    (r : Turning stands fact most s)
+    (id l : ℕ) (h : Here stands fact most s r id l) (p : Part E) (hs : List (List ℕ)) (op : List (ℕ × ℕ × E)) (turns steps : ℕ) (lock : Lock E) where
+  abbrev after : View E
+  after = record (r.passes id) { parts = set (r.passes id).parts l p; hands = hs; opened = op; turns = turns; steps = steps }
+
+  abbrev passes' : ℕ → View E
+  passes' = at_place r.passes id after
+
+  abbrev locks' : ℕ → Lock E
+  locks' = at_place r.locks l lock
+
+  -- what the passes have opened afterwards
+  abbrev opens' : ℕ → List (ℕ × ℕ × E)
+  opens' = at_place (λ j. (r.passes j).opened) id op
+
+  -- what holds of the new part, and of all others as they were, holds of each
+  each_part : (P : ℕ → Part E → Type 0) → P l p → ((k : ℕ) → k ≢ l → P k (part (r.passes id) k)) → (k : ℕ) → P k (part after k)
+  each_part = each_set (r.passes id).parts l p blank (let n = h.own.parts in let near = h.near in omega arith)
+
+  -- The word i, which belongs to the lock l, becomes m; only the home of l may change, and the world comes to u
+  pub moved : (i m : ℕ) (homes' : List (maybe.Option (Cell X E))) (u : World E) → length hs ≡ r.many → (r.passes id).turns ≤ turns → turns ≤ 2 ^ 43
+      → (l ≡ 0 → p.holds ≡ false → op ≡ []) → (l ≢ 0 → (part (r.passes id) 0).holds ≡ false → op ≡ [])
+      → ((k q : ℕ) → k < r.many → k ≢ l → q < 4 → (k ≢ i) × (r.many + k ≢ i) × (2 * r.many + (4 * k + q) ≢ i))
+      → length homes' ≡ length s.homes → ((k : ℕ) → k ≢ l → get_elem? homes' k ≡ get_elem? s.homes k)
+      → SeatOk lock id p → ((j : ℕ) → j ≢ id → SeatOk (r.locks l) j (part (r.passes j) l) → SeatOk lock j (part (r.passes j) l))
+      → ((total : ℕ) → total + (r.passes id).turns ≡ turns_of s.views + turns → LockOk stands r.many total (set s.words i m) homes' l lock)
+      → Becomes id l (world_of r.locks r.passes) u lock (λ k. get_or hs k []) p.swept
+      → (l ≡ 0 → u.told.opened ≡ opened_by lock.holder opens') → (l ≢ 0 → u.told.opened ≡ opened_by (r.locks 0).holder opens')
+      → fact u → Turning stands fact most record { words = set s.words i m; homes = homes'; views = set s.views id after } × Stood fact after
+  moved i m homes' u long more top shut_zero shut_else apart as_long same_homes mine others lock_is becomes opened_zero opened_else kept =
+      let v : View E = r.passes id in
+      let own = h.own in
+      let at = h.at in
+      let free = h.free in
+      let ops : ℕ → List (ℕ × ℕ × E) = λ j. (r.passes j).opened in
+      let sums = turns_set s.views id v after at in
+      let word : (k : ℕ) → k ≢ i → get_or (set s.words i m) k 0 ≡ get_or s.words k 0 = λ k n. get_or-set_other s.words i k m 0 n in
+      let carry : (back : List (ℕ × List (Part E))) → IsBack r.retired r.passes back → IsBack r.retired passes' back = λ back b k c e.
+      let q = b k c e in
+      (q.0, ap (λ (u : View E). u.parts) (place_else r.passes id c.0 after (λ z. not_both (r.retired c.0) q.0 (ap r.retired z ∙ free))) ∙ q.1, q.2) in
+      let shut : (part after 0).holds ≡ false → op ≡ [] = each_part (λ k q. k ≡ 0 → q.holds ≡ false → op ≡ []) (λ z. shut_zero z)
+      (λ k n z h. shut_else (λ q. n (z ∙ sym q)) (ap (λ (i : ℕ). (part v i).holds) (sym z) ∙ h)) 0 refl in
+      let s' : State (Cell X E) (View E) = record { words = set s.words i m; homes = homes'; views = set s.views id after } in
+      let r' : Turning stands fact most s' = record {
+        locks = locks';
+        passes = passes';
+        retired = r.retired;
+        many = r.many;
+        count = r.count;
+        slots = as_long ∙ r.slots;
+        wide = length-set s.words i m ∙ r.wide;
+        views = length-set s.views id after ∙ r.views;
+        few = r.few;
+        fits = r.fits;
+        shown = shown_set stands fact most s r id at free after;
+        each_pass = every (λ j u. IsPass r.many r.count j u) r.passes id after
+            (let parts = length-set v.parts l p ∙ own.parts in search own.made)
+            (λ j _. r.each_pass j);
+        each_seat = λ j k. every (λ k q. SeatOk q j (part (passes' j) k)) r.locks l lock
+            (every (λ j u. SeatOk lock j (part u l)) r.passes id after
+            (each_part (λ k q. k ≡ l → SeatOk lock id q) (λ _. mine) (λ k n z. absurd (n z)) l refl) (λ j n. others j n (r.each_seat j l)) j)
+            (λ k n. every (λ j u. SeatOk (r.locks k) j (part u k)) r.passes id after
+            (each_part (λ k q. k ≢ l → SeatOk (r.locks k) id q) (λ z. absurd (z refl)) (λ k _ _. r.each_seat id k) k n) (λ j _. r.each_seat j k) j) k;
+        each_lock = λ k lt. every (λ k q. k < r.many → LockOk stands r.many (turns_of (set s.views id after)) (set s.words i m) homes' k q) r.locks l lock
+            (λ _. lock_is (turns_of (set s.views id after)) sums)
+            (λ k n lt.
+            let ok = r.each_lock k lt in
+            let one = apart k 0 lt n (omega arith) in
+            let marks : (q : ℕ) → q < 4 → get_or (set s.words i m) (2 * r.many + (4 * k + q)) 0 ≡ (r.locks k).marks q =
+            λ q t. word (2 * r.many + (4 * k + q)) (apart k q lt n t).2 ∙ ok.marks q t in
+            let home : (r.locks k).holder ≡ None → IsHome stands k (r.locks k).list homes' = λ none. let h =
+            ok.home none in (h.0, same_homes k n ∙ h.1, h.2) in
+            search (arith, word, ok)) k lt;
+        back = every (λ j u. IsBack r.retired passes' u.back) r.passes id after (carry v.back (r.back id)) (λ j _. carry (r.passes j).back (r.back j));
+        tied = subst fact (λ i. record {
+          told = record {
+            lists = λ k. every (λ k q. u.told.lists k ≡ q.list) r.locks l lock becomes.list_here becomes.list_else k i;
+            opened = (every (λ k q. k ≡ 0 → u.told.opened ≡ opened_by q.holder opens') r.locks l lock opened_zero
+                (λ k n z. opened_else (λ q. n (z ∙ sym q)) ∙ ap (λ (j : ℕ). opened_by (r.locks j).holder opens') (sym z)) 0 refl
+                ∙ (λ t. opened_by (locks' 0).holder (λ j. every (λ j x. opens' j ≡ x.opened) r.passes id after (place_here ops id id op refl)
+                (λ j n. place_else ops id j op n) j t))) i;
           };
-          counts = λ j u e some_made. ⊎_elim
-              (λ h. let f = r.counts id v at (subst (λ (k : ℕ). 0 < k) (ap (λ (t : View E). t.made) (sym h.1) ∙ m.made) some_made) in
-              (ap (λ (i : ℕ). i + 1) h.0 ∙ (f.0 ∙ sym long), ap (λ (t : View E). t.made) (sym h.1) ∙ (m.made ∙ (f.1 ∙ sym long))))
-              (λ h. let f = r.counts j u h.1 some_made in (f.0 ∙ sym long, f.1 ∙ sym long))
-              (at_set s.views id j w u e);
-          tied = tied;
-          opens = opens;
-        }
+          holder = every (λ k q. k ≡ 0 → u.holder ≡ q.holder) r.locks l lock becomes.holder_zero
+              (λ k n z. becomes.holder_else (λ q. n (z ∙ sym q)) ∙ ap (λ (j : ℕ). (r.locks j).holder) (sym z)) 0 refl i;
+          hands = λ j k. every (λ j x. u.hands j k ≡ hand x k) r.passes id after (becomes.hand_here k) (λ j n. becomes.hand_else j k n) j i;
+          marks = λ k. every (λ k q. u.marks k ≡ q.marks) r.locks l lock becomes.marks_here becomes.marks_else k i;
+          swept = λ j k. every (λ j x. u.swept j k ≡ (part x k).swept) r.passes id after
+              (each_part (λ k q. u.swept id k ≡ q.swept) becomes.swept_here (λ k n. becomes.swept_else id k (λ _ z. n z)) k)
+              (λ j n. becomes.swept_else j k (λ z _. n z)) j i;
+        }) kept;
+      } in (
+        r',
+        record {
+          world = world_of locks' passes';
+          fits = subst (λ u. Fits u (world_of locks' passes')) (place_here r.passes id id after refl) (fits_of stands fact most s' r' id);
+          holds = r'.tied;
+        },
+      )

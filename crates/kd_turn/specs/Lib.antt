@@ -1,6 +1,6 @@
 pub mod Lists
 pub mod World
 pub mod Rule
-pub mod Told
 pub mod Sight
+pub mod Told
 pub mod Seated

@@ -1,5 +1,6 @@
--- The rule of the turns. A gate of n locks has 6 n words: word l is the next ticket of the lock l, word n + l the ticket that is served, and the words from 2 n + 4 l on are its four mark words.
-use Rattle.std.specs.Prelude.{◌≡◌, ◌≢◌, ℕ, ◌+◌, ◌*◌, ◌^◌, ◌<◌, ◌≤◌, true, false, List, [], ◌∷◌, ◌++◌, length, slice_index_or, slice_set, Option, Some, None}
+-- The rule of the turns. A gate of n locks has 6 n words: word l is the next ticket of the lock l, word n + l the ticket that is served, and the words
+-- from 2 n + 4 l on are its four mark words.
+use Rattle.std.specs.Prelude.{◌≡◌, ℕ, ◌+◌, ◌*◌, ◌^◌, ◌<◌, ◌≤◌, Bool, true, false, cond, List, [], ◌∷◌, ◌++◌, map, length, slice_index_or, slice_set, Option, Some, None}
 use mathlib.Core.Option.{some}
 use mathlib.Core.Option as maybe
 use mathlib.Core.List.{IsPrefix}
@@ -8,8 +9,16 @@ use Rattle.atomic_table.specs.Table.{State}
 use Rattle.kd_turn.specs.declared.views.Cell.{Cell}
 use Rattle.kd_turn.specs.declared.views.Part.{Part}
 use Rattle.kd_turn.specs.declared.views.View.{View}
-use Rattle.kd_turn.specs.Lists.{made_by, blank, part, hand, with_part, without, tabled, opening_view}
+use Rattle.kd_turn.specs.Lists.{made_by, blank, part, hand, with_part, without, is_at, tabled, opening_view}
 use Rattle.kd_turn.specs.World.{World, opened_after}
+
+-- what one lock has come to: its list, its next ticket and who drew each one, the pass that holds it, and its mark words
+pub record Lock (E : Type 0) : Type 0 where
+  pub list : List (ℕ × E)
+  pub next : ℕ
+  pub drawer : ℕ → ℕ
+  pub holder : Option ℕ
+  pub marks : ℕ → ℕ
 
 module _ {E : Type 0} where
   -- the view after a ticket was drawn
@@ -26,11 +35,12 @@ module _ {E : Type 0} where
 
   -- the view after the lock was passed on
   abbrev pub passed_on : (ℕ → E → (ℕ → List ℕ) → ℕ → List ℕ) → ℕ → E → View E → View E
-  passed_on after l e v = record (with_part v l (part_passed l e v)) { hands = tabled (length v.hands) (after l e (hand v)); opened = opened_after l (v.name, e) (part v 0).holds v.opened }
+  passed_on after l e v =
+      record (with_part v l (part_passed l e v)) { hands = tabled (length v.hands) (after l e (hand v)); opened = opened_after l (v.name, e) (part v 0).holds v.opened }
 
   -- the view after a number was marked, and after a mark word was swept
   abbrev pub marked : ℕ → ℕ → View E → View E
-  marked l n v = record v { hands = slice_set v.hands l (without n (hand v l)); steps = v.steps + 1 }
+  marked l n v = record (with_part v l (part v l)) { hands = slice_set v.hands l (without n (hand v l)); steps = v.steps + 1 }
 
   abbrev pub cleared : ℕ → ℕ × ℕ → View E → View E
   cleared l word v = with_part v l (record (part v l) { swept = (part v l).swept ++ word ∷ [] })
@@ -53,53 +63,54 @@ module _ {E : Type 0} where
   abbrev pub both : View E → View E → View E
   both v w = record v { back = (w.name, w.parts) ∷ v.back }
 
+  -- the view u is v, which has taken in these others
+  abbrev pub TakenIn : View E → List (View E) → View E → Type 0
+  TakenIn v others u = u ≡ record v { back = map (λ w. (w.name, w.parts)) others ++ v.back }
+
   abbrev pub turns_of : List (View E) → ℕ
   turns_of [] = 0
   turns_of (v ∷ vs) = v.turns + turns_of vs
 
--- of a gate of n locks, the seat j has the view v
-pub record IsView {E : Type 0} (n j : ℕ) (v : View E) : Type 0 where
+  -- what is open stands in the view of the pass that holds lock 0
+  abbrev pub opened_by : Option ℕ → (ℕ → List (ℕ × ℕ × E)) → List (ℕ × ℕ × E)
+  opened_by None opened = []
+  opened_by (Some j) opened = opened j
+
+  -- the world where the locks have come to this, and the passes know this
+  abbrev pub world_of : (ℕ → Lock E) → (ℕ → View E) → World E
+  world_of locks passes = record {
+    told = record { lists = λ l. (locks l).list; opened = opened_by (locks 0).holder (λ j. (passes j).opened) };
+    holder = (locks 0).holder;
+    hands = λ j l. hand (passes j) l;
+    marks = λ l. (locks l).marks;
+    swept = λ j l. (part (passes j) l).swept;
+  }
+
+-- of a gate of n locks and so many passes yet, the pass j knows this
+pub record IsPass {E : Type 0} (n count j : ℕ) (v : View E) : Type 0 where
+  pub name : v.name ≡ j
+  pub live : v.live ≡ true
   pub turns : v.turns ≤ 2 ^ 43
-  pub name : v.live ≡ true → v.name ≡ j
-  pub parts : v.live ≡ true → length v.parts ≡ n
-  pub hands : v.live ≡ true → length v.hands ≡ n
-  pub gone : v.live ≡ false → v ≡ spent
+  pub parts : length v.parts ≡ n
+  pub hands : length v.hands ≡ n
+  pub shut : (part v 0).holds ≡ false → v.opened ≡ []
+  -- the pass that was made last is the last
+  pub made : 0 < v.made → (v.made ≡ count) × (j + 1 ≡ count)
 
--- what the rule says of the seat j at one lock, whose next ticket is `next`
-pub record SeatOk {E : Type 0} (next : ℕ) (list : List (ℕ × E)) (j : ℕ) (p : Part E) : Type 0 where
-  pub begins : IsPrefix p.seen list
-  pub mine : made_by j list ≡ p.own
-  pub waits : (n : ℕ) → p.ticket ≡ Some n → (length list ≤ n) × (n < next)
-  pub here : p.holds ≡ true → (p.ticket ≡ Some (length list)) × (p.seen ≡ list)
-
--- what a pass that was taken in knew
-pub record Kept {E : Type 0} (views : List (View E)) (n : ℕ) (lists : ℕ → List (ℕ × E)) (b : ℕ × List (Part E)) : Type 0 where
-  pub gone : get_elem? views b.0 ≡ some spent
-  pub wide : length b.1 ≡ n
-  pub begins : (l : ℕ) → l < n → IsPrefix (slice_index_or b.1 l blank).seen (lists l)
-  pub mine : (l : ℕ) → l < n → made_by b.0 (lists l) ≡ (slice_index_or b.1 l blank).own
-
--- the view u is v, which has taken in others of these views
-pub record TakenIn {E : Type 0} (v : View E) (others : List (View E)) (u : View E) : Type 0 where
-  pub name : u.name ≡ v.name
-  pub parts : u.parts ≡ v.parts
-  pub live : u.live ≡ v.live
-  pub kept : (k : ℕ) (w : View E) → get_elem? others k ≡ some w → (i : ℕ) × (get_elem? u.back i ≡ some (w.name, w.parts))
-
--- the entries that are open stand in the view that holds lock 0
-pub record Opens {E : Type 0} (views : List (View E)) (opened : List (ℕ × ℕ × E)) (holder : Option ℕ) : Type 0 where
-  pub holder_is : (j : ℕ) (v : View E) → get_elem? views j ≡ some v → (part v 0).holds ≡ true → (v.opened ≡ opened) × (holder ≡ Some j)
-  pub others : (j : ℕ) (v : View E) → get_elem? views j ≡ some v → (part v 0).holds ≡ false → (v.opened ≡ []) × (holder ≢ Some j)
-  pub nobody : ((j : ℕ) (v : View E) → get_elem? views j ≡ some v → (part v 0).holds ≡ false) → (opened ≡ []) × (holder ≡ None)
-  pub within : (j : ℕ) → holder ≡ Some j → j < length views
-
--- the hands and the swept words stand in the views
-pub record InViews {E : Type 0} (views : List (View E)) (w : World E) : Type 0 where
-  pub hands : (j l : ℕ) (v : View E) → get_elem? views j ≡ some v → v.live ≡ true → hand v l ≡ w.hands j l
-  pub no_hand : (j l : ℕ) → length views ≤ j → w.hands j l ≡ []
-  pub swept : (j l : ℕ) (v : View E) → get_elem? views j ≡ some v → v.live ≡ true → (part v l).swept ≡ w.swept j l
+-- what the rule says of the pass j at one lock
+pub record SeatOk {E : Type 0} (lock : Lock E) (j : ℕ) (p : Part E) : Type 0 where
+  pub begins : IsPrefix p.seen lock.list
+  pub mine : made_by j lock.list ≡ p.own
+  pub waits : (n : ℕ) → p.ticket ≡ Some n → (length lock.list ≤ n) × (n < lock.next) × (lock.drawer n ≡ j)
+  pub here : p.holds ≡ true → (p.ticket ≡ Some (length lock.list)) × (p.seen ≡ lock.list)
+  pub holds : p.holds ≡ is_at j lock.holder
   -- a pass sweeps only what it holds
-  pub unswept : (j l : ℕ) → ((v : View E) → get_elem? views j ≡ some v → (part v l).holds ≡ false) → w.swept j l ≡ []
+  pub unswept : p.holds ≡ false → p.swept ≡ []
+
+-- the passes that a pass has taken in: they are retired, held nothing, and know what they knew
+abbrev pub IsBack : {E : Type 0} → (ℕ → Bool) → (ℕ → View E) → List (ℕ × List (Part E)) → Type 0
+IsBack {E} retired passes back = (k : ℕ) (b : ℕ × List (Part E)) → get_elem? back k ≡ some b
+    → (retired b.0 ≡ true) × ((passes b.0).parts ≡ b.1) × ((l : ℕ) → (slice_index_or b.1 l blank).holds ≡ false)
 
 module _ {X E : Type 0} (stands : ℕ → List (ℕ × E) → X → Type 0) where
   -- a value for the list lies in the cell
@@ -109,28 +120,32 @@ module _ {X E : Type 0} (stands : ℕ → List (ℕ × E) → X → Type 0) wher
   abbrev pub IsHome : ℕ → List (ℕ × E) → List (maybe.Option (Cell X E)) → Type 0
   IsHome l list homes = (y : Cell X E) × (get_elem? homes l ≡ some (some y)) × Stands l list y
 
-  pub record LockOk (words : List ℕ) (homes : List (maybe.Option (Cell X E))) (views : List (View E)) (list : List (ℕ × E)) (l : ℕ) : Type 0 where
-    pub behind : length list ≤ slice_index_or words l 0
-    pub serves : slice_index_or words (length homes + l) 0 ≡ length list
-    pub enough : slice_index_or words l 0 ≤ turns_of views
-    pub apart : (i j n : ℕ) (v w : View E) → get_elem? views i ≡ some v → get_elem? views j ≡ some w → (part v l).ticket ≡ Some n → (part w l).ticket ≡ Some n → i ≡ j
-    pub home : ((j : ℕ) (v : View E) → get_elem? views j ≡ some v → (part v l).holds ≡ false) → IsHome l list homes
-    pub unborn : (j : ℕ) → length views ≤ j → made_by j list ≡ []
+  -- what the rule says of the lock l, one of n, where so many turns were taken
+  pub record LockOk (n turns : ℕ) (words : List ℕ) (homes : List (maybe.Option (Cell X E))) (l : ℕ) (lock : Lock E) : Type 0 where
+    pub draws : slice_index_or words l 0 ≡ lock.next
+    pub serves : slice_index_or words (n + l) 0 ≡ length lock.list
+    pub marks : (q : ℕ) → q < 4 → slice_index_or words (2 * n + (4 * l + q)) 0 ≡ lock.marks q
+    pub behind : length lock.list ≤ lock.next
+    pub enough : lock.next ≤ turns
+    pub home : lock.holder ≡ None → IsHome l lock.list homes
 
   -- Whatever step is made, this holds again. `most` is the number of passes that are ever made
   module _ (fact : World E → Type 0) where
     pub record Turning (most : ℕ) (s : State (Cell X E) (View E)) : Type 0 where
-      pub world : World E
-      pub wide : length s.words ≡ 6 * length s.homes
-      pub few : length s.views ≤ most
+      pub locks : ℕ → Lock E
+      -- what each pass knows, also one that was taken in, and one that was not made yet
+      pub passes : ℕ → View E
+      pub retired : ℕ → Bool
+      pub many : ℕ
+      pub count : ℕ
+      pub slots : length s.homes ≡ many
+      pub wide : length s.words ≡ 6 * many
+      pub views : length s.views ≡ count
+      pub few : count ≤ most
       pub fits : most ≤ 1024
-      pub named : (j : ℕ) (v : View E) → get_elem? s.views j ≡ some v → IsView (length s.homes) j v
-      pub each_lock : (l : ℕ) → l < length s.homes → LockOk s.words s.homes s.views (world.told.lists l) l
-      pub each_seat : (j : ℕ) (v : View E) (l : ℕ) → get_elem? s.views j ≡ some v → v.live ≡ true → l < length s.homes → SeatOk (slice_index_or s.words l 0) (world.told.lists l) j (part v l)
-      pub taken_in : (j k : ℕ) (v : View E) (b : ℕ × List (Part E)) → get_elem? s.views j ≡ some v → get_elem? v.back k ≡ some b → Kept s.views (length s.homes) world.told.lists b
-      pub beyond : (l : ℕ) → length s.homes ≤ l → world.told.lists l ≡ []
-      pub each_mark : (l q : ℕ) → l < length s.homes → q < 4 → slice_index_or s.words (2 * length s.homes + (4 * l + q)) 0 ≡ world.marks l q
-      pub in_views : InViews s.views world
-      pub counts : (j : ℕ) (v : View E) → get_elem? s.views j ≡ some v → 0 < v.made → (j + 1 ≡ length s.views) × (v.made ≡ length s.views)
-      pub tied : fact world
-      pub opens : Opens s.views world.told.opened world.holder
+      pub shown : (j : ℕ) → slice_index_or s.views j (opening_view many j) ≡ cond (retired j) spent (passes j)
+      pub each_pass : (j : ℕ) → IsPass many count j (passes j)
+      pub each_seat : (j l : ℕ) → SeatOk (locks l) j (part (passes j) l)
+      pub each_lock : (l : ℕ) → l < many → LockOk many (turns_of s.views) s.words s.homes l (locks l)
+      pub back : (j : ℕ) → IsBack retired passes (passes j).back
+      pub tied : fact (world_of locks passes)

@@ -4,11 +4,13 @@ use mathlib.Core.Option.{some}
 use mathlib.Core.List.{IsPrefix}
 use lib.ListN.{get_elem?}
 use Rattle.atomic_table.specs.Table.{Me, Step}
+use Rattle.atomic_table.specs.Seated.{TableId}
 use Rattle.kd_turn.specs.declared.views.Cell.{Cell}
 use Rattle.kd_turn.specs.declared.views.View.{View}
 use Rattle.kd_turn.specs.Lists.{made_by, blank, part, hand, without}
+use Rattle.kd_turn.specs.Sight.{Sight}
 use Rattle.kd_turn.specs.World.{World, entered, opened_after}
-use Rattle.kd_turn.specs.Rule.{Stands, drawn, holding, part_passed, passed_on, marked, cleared}
+use Rattle.kd_turn.specs.Rule.{drawn, holding, part_passed, passed_on, marked, cleared}
 
 -- The world is in keeping with what a pass of this view knows
 pub record Fits {E : Type 0} (v : View E) (w : World E) : Type 0 where
@@ -31,29 +33,30 @@ pub record Stood {E : Type 0} (fact : World E → Type 0) (v : View E) : Type 0 
 
 module _ {X E : Type 0} where
   abbrev pub drew : Step (Cell X E) → Me (Cell X E) (View E) → ℕ → Me (Cell X E) (View E) → Type 0
-  drew st m r m' = (m' ≡ (drawn st.word r m.0, m.1)) × (part m'.0 st.word ≡ record (part m.0 st.word) { ticket = Some r })
+  drew st m r m' = m' ≡ (drawn st.word r m.0, m.1)
 
-  -- the pass gained the lock, with its whole list and the value that stands for it
-  pub record Gained (stands : ℕ → List (ℕ × E) → X → Type 0) (fact : World E → Type 0) (l r : ℕ) (m m' : Me (Cell X E) (View E)) : Type 0 where
-    pub list : List (ℕ × E)
-    pub cell : Cell X E
-    pub seat : m' ≡ (holding l list m.0, (l, cell) ∷ m.1)
-    pub value : Stands stands l list cell
-    pub begins : IsPrefix (part m.0 l).seen list
-    pub mine : made_by m.0.name list ≡ (part m.0 l).own
-    pub turn : length list ≡ r
+  -- what a pass of the view v finds when it gains the lock l: the value x stands for the lock's whole list
+  pub record Gains (stands : ℕ → List (ℕ × E) → X → Type 0) (fact : World E → Type 0) (l : ℕ) (v : View E) (list : List (ℕ × E)) (x : X) : Type 0 where
+    pub value : stands l list x
+    pub begins : IsPrefix (part v l).seen list
+    pub mine : made_by v.name list ≡ (part v l).own
     pub short : length list < 2 ^ 53
-    pub here : part m'.0 l ≡ record (part m.0 l) { seen = list; holds = true }
-    pub unswept : (part m.0 l).swept ≡ []
-    pub shut : (part m.0 0).holds ≡ false → m.0.opened ≡ []
-    pub stood : Stood fact m'.0
+    pub unswept : (part v l).swept ≡ []
+    pub shut : (part v 0).holds ≡ false → v.opened ≡ []
+    pub stood : Stood fact (holding l list v)
+
+  -- the pass of the seat m gained the lock, and carries a slot of it
+  abbrev pub Gained : (ℕ → List (ℕ × E) → X → Type 0) → (World E → Type 0) → ℕ → X → Cell X E → Me (Cell X E) (View E) → Me (Cell X E) (View E) → Type 0
+  Gained stands fact l x y m m' = (list : List (ℕ × E)) × (m' ≡ (holding l list m.0, (l, y) ∷ m.1)) × Gains stands fact l m.0 list x
 
   abbrev pub looked : (ℕ → List (ℕ × E) → X → Type 0) → (World E → Type 0) → Step (Cell X E) → Me (Cell X E) (View E) → ℕ → Me (Cell X E) (View E) → Type 0
-  looked stands fact st m r m' = (l : ℕ) → st.word ≡ st.slots + l → ((part m.0 l).ticket ≡ Some r → Gained stands fact l r m m') × ((part m.0 l).ticket ≢ Some r → m' ≡ m)
+  looked stands fact st m r m' = (l : ℕ) → st.word ≡ st.slots + l
+      → ((part m.0 l).ticket ≡ Some r → (x : X) × (y : Cell X E) × (y.value ≡ Some x) × Gained stands fact l x y m m') × ((part m.0 l).ticket ≢ Some r → m' ≡ m)
 
   -- the entry lies in the slot, which goes home
   abbrev pub passed : (ℕ → E → (ℕ → List ℕ) → ℕ → List ℕ) → Step (Cell X E) → Me (Cell X E) (View E) → ℕ → Me (Cell X E) (View E) → Type 0
-  passed after st m r m' = (l : ℕ) (y : Cell X E) (e : E) (c : List (ℕ × Cell X E)) → st.word ≡ st.slots + l → m.1 ≡ (l, y) ∷ c → y.entry ≡ Some e → (m' ≡ (passed_on after l e m.0, c)) × (part m'.0 l ≡ part_passed l e m.0) × (l < length m.0.hands)
+  passed after st m r m' = (l : ℕ) (y : Cell X E) (e : E) (c : List (ℕ × Cell X E)) → st.word ≡ st.slots + l → m.1 ≡ (l, y) ∷ c → y.entry ≡ Some e
+      → m' ≡ (passed_on after l e m.0, c)
 
   -- the number n = 64 q + i is marked, and leaves the hand
   abbrev pub sets_mark : Step (Cell X E) → Me (Cell X E) (View E) → ℕ → Me (Cell X E) (View E) → Type 0
@@ -61,7 +64,7 @@ module _ {X E : Type 0} where
 
   -- the marks belong to this turn
   abbrev pub swept_up : Step (Cell X E) → Me (Cell X E) (View E) → ℕ → Me (Cell X E) (View E) → Type 0
-  swept_up st m r m' = (l q : ℕ) → q < 4 → st.word ≡ 2 * st.slots + (4 * l + q) → (m' ≡ (cleared l (q, r) m.0, m.1)) × (part m'.0 l ≡ record (part m.0 l) { swept = (part m.0 l).swept ++ (q, r) ∷ [] })
+  swept_up st m r m' = (l q : ℕ) → q < 4 → st.word ≡ 2 * st.slots + (4 * l + q) → m' ≡ (cleared l (q, r) m.0, m.1)
 
 module _ {X E : Type 0} where
   -- A pass took the lock l, and has its value x
@@ -105,6 +108,10 @@ pub record IsFresh {E : Type 0} (name : ℕ) (v : View E) : Type 0 where
   pub opened : v.opened ≡ []
   pub turns : v.turns ≡ 0
   pub steps : v.steps ≡ 0
+
+-- passes that have seen nothing, in the order of their numbers
+abbrev pub AreFresh : {E : Type 0} → TableId → List (Sight E) → Type 0
+AreFresh {E} id all = (k : ℕ) (s : Sight E) → get_elem? all k ≡ some s → (s.gate ≡ id) × (s.held ≡ []) × IsFresh k s.view
 
 -- A pass marked the number n of the lock l, which left its hand
 pub record Marked {E : Type 0} (l n : ℕ) (v v' : View E) : Type 0 where

@@ -8,20 +8,20 @@ ghost use Rattle.kd_turn.specs.Sight.{Sight};
 ghost use Rattle.kd_turn.specs.Told.{Ended};
 ghost use Rattle.kd_turn.specs.World.{Fact};
 
-use crate::gate::{Board, Gate};
+use crate::gate::{Board, Gate, SeatOf};
 use crate::pass::Pass;
 use crate::plays::Absorb;
 use crate::standing::Standing;
 use crate::views::{Cell, View};
-use atomic_table::{Closed, Seat};
+use atomic_table::Closed;
 use std::alloc::Global;
 
 /// One seat takes in the passes, which hold nothing.
 fn gathered<T: Standing>(
     table: &Board<T>,
-    mut first: Seat<Cell<T, T::Entry>, View<T::Entry>>,
+    mut first: SeatOf<T>,
     mut passes: Vec<Pass<T>>,
-) -> Seat<Cell<T, T::Entry>, View<T::Entry>>
+) -> SeatOf<T>
     requires table { (0 < table.now.shared.table_id.words) × (first.table_id ≡ table.now.shared.table_id) }
     requires first { first.me.0.live ≡ true }
     requires passes { All (λ p. (p.gate ≡ table.now.shared.table_id) × (p.held ≡ [])) passes.items }

@@ -2,9 +2,9 @@
 ghost use Rattle.std.specs.Prelude.{◌≡◌, ◌≢◌, ℕ, ◌+◌, ◌*◌, ◌^◌, ◌<◌, ◌≤◌, List, [], ◌∷◌, ◌++◌, true, false, None, Some, length, IfOk, vec_capacity, map};
 ghost use mathlib.Core.Option.{some};
 ghost use lib.ListN.{get_elem?};
-ghost use Rattle.kd_turn.specs.Lists.{cell_of};
+ghost use Rattle.kd_turn.specs.Lists.{cell_of, opening_view};
 ghost use Rattle.kd_turn.specs.Rule.{last_view};
-ghost use Rattle.kd_turn.specs.Told.{IsFresh};
+ghost use Rattle.kd_turn.specs.Told.{AreFresh, IsFresh};
 ghost use Rattle.kd_turn.specs.Sight.{Sight};
 
 use crate::pass::Pass;
@@ -45,6 +45,9 @@ pub(crate) type Board<T> = Table<
     Global,
 >;
 
+/// The right of one pass to make steps on the table.
+pub(crate) type SeatOf<T> = Seat<Cell<T, <T as Standing>::Entry>, View<<T as Standing>::Entry>>;
+
 /// The locks and the values behind them.
 #[derive(Drop)]
 pub struct Gate<T: Standing> {
@@ -77,32 +80,35 @@ fn cells_of<X: Drop, E: Drop>(alloc: Global, values: Vec<X>) -> Result<Vec<Cell<
     Ok(cells)
 }
 
+/// The pass of a seat that has seen nothing.
+#[tactic(auto, using(crate::proofs::Changed::all_alike))]
+fn pass_of<T: Standing>(seat: SeatOf<T>) -> Pass<T>
+    requires { seat.me ≡ (record (opening_view seat.table_id.slots seat.me.0.name) { made = seat.me.0.made }, []) }
+    ensures { (result.gate ≡ seat.table_id) × (result.held ≡ []) × IsFresh seat.me.0.name result.view }
+{
+    Pass { seat, turns: 0 }
+}
+
 /// Splits the first seat into as many as there are to be passes. Each new one splits off the next.
 fn spread<T: Standing>(
     gate: &Gate<T>,
-    seat: Seat<Cell<T, T::Entry>, View<T::Entry>>,
+    seat: SeatOf<T>,
     mut all: Vec<Pass<T>>,
     passes: u32,
 ) -> Vec<Pass<T>>
     requires room { (all.items ≡ []) × (passes ≤ vec_capacity all) }
     requires passes { (0 < passes) × (passes ≡ gate.now.passes) }
-    requires seat { (seat.table_id ≡ gate.now.id) × (seat.me ≡ (last_view gate.now.locks 0, [])) }
+    requires seat { (seat.table_id ≡ gate.now.id) × (seat.me ≡ (last_view seat.table_id.slots 0, [])) }
     ensures count { length result.items ≡ passes }
-    ensures fresh { (k : ℕ) (s : Sight T.Entry) → get_elem? result.items k ≡ some s → (s.gate ≡ gate.now.id) × (s.held ≡ []) × IsFresh k s.view }
+    ensures fresh { AreFresh gate.now.id result.items }
 {
     let mut last = seat;
     'making: for _ in 1..passes {
         let next = gate.table.shared.split_seat::<Cut>(&mut last);
-        all.push_reserved(Pass {
-            seat: last,
-            turns: 0,
-        });
+        all.push_reserved(pass_of(last));
         last = next;
     }
-    all.push_reserved(Pass {
-        seat: last,
-        turns: 0,
-    });
+    all.push_reserved(pass_of(last));
     all
 }
 
@@ -129,7 +135,7 @@ impl<T: Standing + Drop> Gate<T> {
         let all = Vec::with_capacity(alloc, passes as usize)?;
         let cells: Vec<Cell<T, T::Entry>> = cells_of(alloc, values)?;
         let size = Size { locks, passes };
-        let (table, seat): (Board<T>, Seat<Cell<T, T::Entry>, View<T::Entry>>) = match Table::new(
+        let (table, seat): (Board<T>, SeatOf<T>) = match Table::new(
             alloc,
             words.as_slice(),
             cells,

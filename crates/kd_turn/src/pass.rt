@@ -1,15 +1,14 @@
 //! A pass, and what a thread does with it: take a turn, put the value back, mark a number, sweep the marks.
-ghost use Rattle.std.specs.Prelude.{◌≡◌, ℕ, ◌+◌, ◌*◌, ◌/◌, ◌^◌, ◌<◌, ◌≤◌, List, [], ◌∷◌, ◌++◌, true, false};
-ghost use Rattle.kd_turn.specs.Lists.{part, hand, has};
-ghost use Rattle.kd_turn.specs.Rule.{cleared};
-ghost use Rattle.kd_turn.specs.Told.{DidSweep, Marked, Owes, Passed, Took};
+ghost use Rattle.std.specs.Prelude.{◌≡◌, ℕ, ◌+◌, ◌*◌, ◌/◌, ◌^◌, ◌<◌, ◌≤◌, List, [], ◌∷◌, ◌++◌, true, false, None, Some, IfSome, length};
+ghost use Rattle.kd_turn.specs.Lists.{part, hand, has, hollow};
+ghost use Rattle.kd_turn.specs.Rule.{cleared, drawn, marked};
+ghost use Rattle.kd_turn.specs.Told.{DidSweep, Gained, Marked, Owes, Passed, Took};
 ghost use Rattle.kd_turn.specs.World.{Fact, hands_after};
 
-use crate::gate::Gate;
+use crate::gate::{Gate, SeatOf};
 use crate::plays::{Draw, Look, Mark, PassOn, Sweep};
 use crate::standing::Standing;
 use crate::views::{Cell, View};
-use atomic_table::Seat;
 use std::marker::Model;
 use std::sync::Wait;
 use std::{hint, thread};
@@ -17,7 +16,7 @@ use std::{hint, thread};
 /// The right of one thread to take turns, and what it knows. It is moved into a thread, and shared by none.
 #[derive(Drop)]
 pub struct Pass<T: Standing> {
-    pub(crate) seat: Seat<Cell<T, T::Entry>, View<T::Entry>>,
+    pub(crate) seat: SeatOf<T>,
     pub(crate) turns: u64,
 }
 
@@ -31,7 +30,7 @@ impl<T: Standing> Model for Pass<T> {
 
     ghost view = { λ p. record { gate = p.seat.table_id; view = p.seat.me.0; held = map (λ x. x.0) p.seat.me.1 } };
 
-    ghost invariant = { λ p. IsSeated p.turns p.seat.me };
+    ghost invariant = { λ p. IsSeated p.turns p.seat.table_id.slots p.seat.me };
 }
 
 /// How often a pass looks at the ticket that is served before it leaves the processor to others. A turn is short: most come within so many looks.
@@ -47,16 +46,67 @@ fn pause(looks: u32) -> u32 {
     looks - 1
 }
 
+/// Draws a ticket of a lock.
+fn draw<T: Standing>(gate: &Gate<T>, seat: &mut SeatOf<T>, lock: u32) -> u64
+    requires gate { seat.old.table_id ≡ gate.now.id }
+    requires lock { lock < gate.now.locks }
+    requires live { seat.old.me.0.live ≡ true }
+    requires idle { (part seat.old.me.0 lock).holds ≡ false }
+    requires turns { seat.old.me.0.turns < 2 ^ 43 }
+    requires wide { length seat.old.me.0.parts ≡ seat.old.table_id.slots }
+    ensures gate { (seat.new.table_id ≡ seat.old.table_id) × (lock < seat.old.table_id.slots) }
+    ensures ticket { (part seat.new.me.0 lock).ticket ≡ Some result }
+    ensures drew { seat.new.me ≡ (drawn lock result seat.old.me.0, seat.old.me.1) }
+{
+    gate.table.shared.fetch_add::<Draw>(seat, lock as usize, 1)
+}
+
+/// Looks once whether the ticket is served, and takes the value if it is.
+fn look<T: Standing>(gate: &Gate<T>, seat: &mut SeatOf<T>, lock: u32, ticket: u64) -> Option<T>
+    requires gate { seat.old.table_id ≡ gate.now.id }
+    requires lock { lock < gate.now.locks }
+    requires live { seat.old.me.0.live ≡ true }
+    requires free { (k : ℕ) → lock ≤ k → (part seat.old.me.0 k).holds ≡ false }
+    requires ticket { (part seat.old.me.0 lock).ticket ≡ Some ticket }
+    ensures gate { seat.new.table_id ≡ seat.old.table_id }
+    ensures gained { IfSome result (λ x. Gained T.stands (Fact T.tie T.lends T.out T.keeper) lock x hollow seat.old.me seat.new.me) }
+    ensures missed { result ≡ None → seat.new.me ≡ seat.old.me }
+{
+    let shared = &gate.table.shared;
+    let now = shared.load::<Look<T>>(seat, gate.locks as usize + lock as usize);
+    if now != ticket {
+        return None;
+    }
+    let empty = Cell {
+        value: None,
+        entry: None,
+    };
+    let Cell { value, entry: _ } = shared.exchange(seat, lock as usize, empty);
+    value
+}
+
+/// Sets the bit of a number in the mark words of a lock.
+fn set_mark<T: Standing>(gate: &Gate<T>, seat: &mut SeatOf<T>, lock: u32, number: u32)
+    requires gate { seat.old.table_id ≡ gate.now.id }
+    requires place { (lock < gate.now.locks) × (number < 256) }
+    requires live { seat.old.me.0.live ≡ true }
+    requires in_hand { has number (hand seat.old.me.0 lock) ≡ true }
+    ensures gate { seat.new.table_id ≡ seat.old.table_id }
+    ensures set { seat.new.me ≡ (marked lock number seat.old.me.0, seat.old.me.1) }
+{
+    let first = 2 * gate.locks as usize + 4 * lock as usize;
+    let word = (number / 64) as usize;
+    gate.table
+        .shared
+        .fetch_or::<Mark>(seat, first + word, 1u64 << (number % 64));
+}
+
 /// Swaps one of the four mark words of a lock with 0.
-fn clear_word<T: Standing>(
-    gate: &Gate<T>,
-    seat: &mut Seat<Cell<T, T::Entry>, View<T::Entry>>,
-    lock: u32,
-    word: usize,
-) -> u64
+fn clear_word<T: Standing>(gate: &Gate<T>, seat: &mut SeatOf<T>, lock: u32, word: usize) -> u64
     requires gate { seat.old.table_id ≡ gate.now.id }
     requires place { (lock < gate.now.locks) × (word < 4) }
     requires live { seat.old.me.0.live ≡ true }
+    requires wide { length seat.old.me.0.parts ≡ seat.old.table_id.slots }
     requires held { (part seat.old.me.0 lock).holds ≡ true }
     ensures seat { (seat.new.table_id ≡ seat.old.table_id) × (seat.new.me ≡ (cleared lock (word, result) seat.old.me.0, seat.old.me.1)) }
     ensures here { part seat.new.me.0 lock ≡ record (part seat.old.me.0 lock) { swept = (part seat.old.me.0 lock).swept ++ (word, result) ∷ [] } }
@@ -84,24 +134,12 @@ impl<T: Standing> Pass<T> {
         ensures held { self.new.held ≡ lock ∷ self.old.held }
         ensures took { Took T.stands (Fact T.tie T.lends T.out T.keeper) lock self.old.view self.new.view result }
     {
-        let shared = &gate.table.shared;
-        let ticket = shared.fetch_add::<Draw>(&mut self.seat, lock as usize, 1);
+        let ticket = draw(gate, &mut self.seat, lock);
         self.turns += 1;
-        let served = gate.locks as usize + lock as usize;
         let mut looks = LOOKS;
         'waiting: for _ in rt.forever() {
-            let now = shared.load::<Look<T>>(&mut self.seat, served);
-            if now == ticket {
-                let hollow = Cell {
-                    value: None,
-                    entry: None,
-                };
-                let Cell { value, entry: _ } = shared.exchange(
-                    &mut self.seat,
-                    lock as usize,
-                    hollow,
-                );
-                return value.unwrap();
+            if let Some(value) = look(gate, &mut self.seat, lock, ticket) {
+                return value;
             }
             looks = pause(looks);
         }
@@ -139,11 +177,7 @@ impl<T: Standing> Pass<T> {
         ensures held { self.new.held ≡ self.old.held }
         ensures marked { Marked lock number self.old.view self.new.view }
     {
-        let first = 2 * gate.locks as usize + 4 * lock as usize;
-        let word = (number / 64) as usize;
-        gate.table
-            .shared
-            .fetch_or::<Mark>(&mut self.seat, first + word, 1u64 << (number % 64));
+        set_mark(gate, &mut self.seat, lock, number);
     }
 
     /// The marks of a lock that the pass holds, which are now clear: its four words in order.

@@ -1,42 +1,42 @@
-use Rattle.std.proofs.Common.{◌≡◌, ℕ, ◌<◌, List, [], ◌∷◌, ◌++◌, map, refl, sym, ap, subst, ◌∙◌, arith, append_assoc}
+use Rattle.std.proofs.Common.{◌≡◌, List, [], ◌∷◌, ◌++◌, ap, ◌∙◌, append_assoc}
 use Rattle.std.specs.Prelude.{Some}
 use Rattle.std.proofs.lemmas.List.Elements.{All-pop}
-use Rattle.kd_turn.specs.declared.views.View.{View}
-use Rattle.kd_turn.specs.Rule.{TakenIn, both}
+use Rattle.kd_turn.specs.Rule.{both}
 use Rattle.kd_turn.specs.Sight.{Sight}
 use Rattle.kd_turn.specs.World.{Fact}
-use Rattle.kd_turn.proofs.Closed.{joins, one_taken, holds_nothing}
+use Rattle.kd_turn.proofs.Made.{joins, holds_nothing}
 use Rattle.kd_turn.proofs.closing.gathered.Goals as goal
 
 pub join_seat-requires : goal.join_seat-requires
 join_seat-requires g c =
     let S = g.T.Standing in
     let inv = c.gathering.invariant in
-    let all = All-pop (λ (p : Sight g.row.T-Entry.Denot). (p.gate ≡ c.args.table.now.shared.table_id) × (p.held ≡ [])) c.gathering.passes.items c.pop.new.self.items (Some c.in-Some.pass) c.in-Some.ensures.items inv.2 in
-    let nothing = holds_nothing c.pass.inside.turns c.pass.inside.seat.me c.pass.invariant (ap (λ q. q.held) c.pass.view_is ∙ all.1.1) in (
+    let all = All-pop (λ (p : Sight g.row.T-Entry.Denot).
+    (p.gate ≡ c.args.table.now.shared.table_id) × (p.held ≡ [])) c.gathering.passes.items c.pop.new.self.items
+    (Some c.in-Some.pass) c.in-Some.ensures.items inv.2 in
+    let nothing = holds_nothing c.pass.inside.turns _ c.pass.inside.seat.me c.pass.invariant (ap (λ q. q.held) c.pass.view_is ∙ all.1.1) in (
       inv.0 ∙ c.requires.table.1,
       ap (λ q. q.gate) c.pass.view_is ∙ all.1.0,
       nothing.0,
       c.requires.table.0,
-      joins S.stands (Fact S.tie S.lends S.out S.keeper) c.args.table.now.shared.key.passes c.gathering.first.id c.pass.inside.seat.id c.gathering.first.me.0 c.pass.inside.seat.me.0 (inv.3.2.live ∙ c.requires.first) c.pass.invariant.live c.pass.invariant.alone nothing.1,
+      joins S.stands (Fact S.tie S.lends S.out S.keeper) c.args.table.now.shared.key.passes c.gathering.first.id c.pass.inside.seat.id c.gathering.first.me.0 c.pass.inside.seat.me.0
+          (ap (λ v. v.live) inv.3.2 ∙ c.requires.first) c.pass.invariant.live nothing.1,
     )
 
 pub gathering-preserved : goal.gathering-preserved
 gathering-preserved g c =
     let inv = c.gathering.invariant in
-    let all = All-pop (λ (p : Sight g.row.T-Entry.Denot). (p.gate ≡ c.args.table.now.shared.table_id) × (p.held ≡ [])) c.gathering.passes.items c.pop.new.self.items (Some c.in-Some.pass) c.in-Some.ensures.items inv.2 in
+    let all = All-pop (λ (p : Sight g.row.T-Entry.Denot).
+    (p.gate ≡ c.args.table.now.shared.table_id) × (p.held ≡ [])) c.gathering.passes.items c.pop.new.self.items
+    (Some c.in-Some.pass) c.in-Some.ensures.items inv.2 in
     let now = c.join_seat.ensures.2 in
-    let done : List (Sight g.row.T-Entry.Denot) = inv.3.0 in
-    let same : c.pass.inside.seat.me.0 ≡ c.in-Some.pass.view = ap (λ q. q.view) c.pass.view_is in
-    let w : View g.row.T-Entry.Denot = c.pass.inside.seat.me.0 in
-    let others : List (View g.row.T-Entry.Denot) = map (λ (p : Sight g.row.T-Entry.Denot). p.view) done in (
+    let done : List (Sight g.row.T-Entry.Denot) = inv.3.0 in (
       c.join_seat.ensures.0 ∙ inv.0,
       ap (λ q. q.1) now ∙ inv.1,
       all.0,
       (
         c.in-Some.pass ∷ done,
         inv.3.1 ∙ (ap (λ xs. xs ++ done) c.in-Some.ensures.items ∙ append_assoc c.pop.new.self.items (c.in-Some.pass ∷ []) done),
-        subst (λ (u : View g.row.T-Entry.Denot). TakenIn c.args.first.me.0 (c.in-Some.pass.view ∷ others) u) (sym (ap (λ q. q.0) now))
-            (subst (λ (x : View g.row.T-Entry.Denot). TakenIn c.args.first.me.0 (x ∷ others) (both c.gathering.first.me.0 w)) same (one_taken c.args.first.me.0 w c.gathering.first.me.0 others inv.3.2)),
+        ap (λ q. q.0) now ∙ (λ i. both (inv.3.2 i) (c.pass.view_is i).view),
       ),
     )
