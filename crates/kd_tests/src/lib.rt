@@ -6,8 +6,6 @@ mod bloom;
 #[cfg(test)]
 mod configuration;
 #[cfg(test)]
-mod core;
-#[cfg(test)]
 mod desk;
 #[cfg(test)]
 mod endpoints;
@@ -35,3 +33,5 @@ mod requests;
 mod seals;
 #[cfg(test)]
 mod values;
+#[cfg(test)]
+mod world;
