@@ -93,7 +93,7 @@ passed : (b c : Bool) → cond (not b) false c ≡ true → b ≡ true
 passed true c e = refl
 passed false c e = absurd cc
 
-behind_takes : (kinds : List ℕ) (before : List WireItem) (e : Entry) (item : WireItem) → item_behind kinds before e ≡ Some item → (is_one_of kinds e.kind ≡ true) × (item_in e.kind e.body ≡ Some item) × (may_follow kinds before e.kind ≡ true)
+pub behind_takes : (kinds : List ℕ) (before : List WireItem) (e : Entry) (item : WireItem) → item_behind kinds before e ≡ Some item → (is_one_of kinds e.kind ≡ true) × (item_in e.kind e.body ≡ Some item) × (may_follow kinds before e.kind ≡ true)
 behind_takes kinds before e item h =
     let a = if_some (may_follow kinds before e.kind) (item_in e.kind e.body) item h in
     (passed (is_one_of kinds e.kind) _ a.0, a.1, a.0)
@@ -125,13 +125,13 @@ entries_bytes : (es : List Entry) → IsBytes (spellings es) → AreBytes es
 entries_bytes [] fits = tt
 entries_bytes (e ∷ es) fits = (body_bytes e (bytes_left (spelling e) (spellings es) fits), entries_bytes es (bytes_right (spelling e) (spellings es) fits))
 
-abbrev the_ok : List WireItem → Result (List WireItem) Refusal
+abbrev pub the_ok : List WireItem → Result (List WireItem) Refusal
 the_ok items = Ok items
 
-abbrev the_error : ℕ → Result (List WireItem) Refusal
+abbrev pub the_error : ℕ → Result (List WireItem) Refusal
 the_error at = Err (Malformed at)
 
-ok_is : (x y : List WireItem) → the_ok x ≡ the_ok y → x ≡ y
+pub ok_is : (x y : List WireItem) → the_ok x ≡ the_ok y → x ≡ y
 ok_is x y e = cc
 
 entry_said : (kinds : List ℕ) (before : List WireItem) (e : Entry) (item : WireItem) → IsBytes e.body → item_behind kinds before e ≡ Some item → entry_of item ≡ e
@@ -216,3 +216,17 @@ items_read kinds at bytes items fits h =
       taken = read_kinds kinds at (split bytes).0 [] items each tt a.1;
       standing = let s = read_stands kinds at (split bytes).0 [] items each a.1 in ap (stand kinds []) s.1 ∙ s.2;
     }
+
+-- the bytes of the items that were read, and their reading
+pub items_bytes : (kinds : List ℕ) (at : ℕ) (bytes : List ℕ) (items : List WireItem) → IsBytes bytes → items_in kinds at bytes ≡ Ok items → AreBytes (split bytes).0
+unfolding items_in
+items_bytes kinds at bytes items fits h =
+    let a = ended (at + length bytes) (split bytes).1 (items_behind kinds [] (placed at (split bytes).0)) items h in
+    let whole = split_whole bytes fits in
+    let nothing : (split bytes).1 ≡ [] = nil_from_length (split bytes).1 a.0 in
+    let spelled-is : bytes ≡ spellings (split bytes).0 = whole.0 ∙ ap (λ (l : List ℕ). spellings (split bytes).0 ++ l) nothing ∙ append-nil (spellings (split bytes).0) in
+    entries_bytes (split bytes).0 (subst (λ (l : List ℕ). IsBytes l) spelled-is fits)
+
+pub items_end : (kinds : List ℕ) (at : ℕ) (bytes : List ℕ) (items : List WireItem) → items_in kinds at bytes ≡ Ok items → items_behind kinds [] (placed at (split bytes).0) ≡ Ok items
+unfolding items_in
+items_end kinds at bytes items h = (ended (at + length bytes) (split bytes).1 (items_behind kinds [] (placed at (split bytes).0)) items h).1

@@ -10,3 +10,4 @@ pub mod ReadAgain
 pub mod Rows
 pub mod RepliesAgain
 pub mod Formed
+pub mod TypedRead

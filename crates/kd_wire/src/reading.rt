@@ -2,6 +2,8 @@
 
 ghost use Rattle.std.specs.Prelude.{◌≡◌, ◌+◌, ◌*◌, ◌^◌, ◌<◌, ◌≤◌, true, IsTrue, [], ◌∷◌, length, map, drop, IfOk, IfErr, OnOk};
 ghost use Rattle.std.specs.Int.{w64, cast_unsigned};
+ghost use Rattle.std.specs.Int.RustNames.{FitsSigned};
+ghost use Rattle.kd_wire.specs.Typed.{HasSigned, IsTyped};
 ghost use Rattle.kd_item.specs.Spelling.{number};
 ghost use Rattle.kd_wire.specs.Ports.{admits, runs};
 ghost use Rattle.kd_wire.specs.Opcodes.{number_of, word_count};
@@ -76,7 +78,8 @@ fn the_payload(items: Vec<WireItem>) -> Blob
 
 /// The two's complement number of a word.
 fn signed(word: u64) -> i64
-    ensures { cast_unsigned w64 result ≡ word }
+    ensures word { cast_unsigned w64 result ≡ word }
+    ensures fits { FitsSigned w64 result }
 {
     word.cast_signed()
 }
@@ -97,6 +100,7 @@ fn message_of(own: &[u8], items: Vec<WireItem>) -> Command
     ensures flags { flags_of result ≡ 0 }
     ensures words { words_of result ≡ words_from 8 0 own.now }
     ensures items { items_of result ≡ items.items }
+    ensures signed { HasSigned result }
 {
     Command::Send {
         flags: SendFlags(word_at(own, 8)),
@@ -135,6 +139,7 @@ fn command_of(opcode: Opcode, flags: u64, own: &[u8], items: Vec<WireItem>) -> C
     ensures flags { flags_of result ≡ flags }
     ensures words { words_of result ≡ own_words opcode own.now }
     ensures items { items_of result ≡ items.items }
+    ensures signed { HasSigned result }
 {
     match opcode {
         Opcode::Hello => Command::Hello {
@@ -215,6 +220,7 @@ fn read_as(
     ensures caller { IfOk result (λ r. admits port r.0 ≡ true) }
     ensures command { IfOk result (λ r. opcode_in r.1 ≡ opcode) }
     ensures well_formed { IfOk result (λ r. IsWellFormed r.1) }
+    ensures typed { IfOk result (λ r. IsTyped r.1) }
     ensures accepted { OnOk result (refusal_in port opcode frame.now ≡ None) }
     ensures refused { IfErr result (λ r. IsWhy r (refusal_in port opcode frame.now)) }
 {
@@ -248,6 +254,7 @@ pub fn read_command(alloc: Global, frame: &[u8], port: Port) -> Result<(u64, Com
     ensures caller { IfOk result (λ r. admits port r.0 ≡ true) }
     ensures command { IfOk result (λ r. runs port (opcode_in r.1) ≡ true) }
     ensures well_formed { IfOk result (λ r. IsWellFormed r.1) }
+    ensures typed { IfOk result (λ r. IsTyped r.1) }
     ensures judged { IfOk result (λ r. IsTrue (is_well_formed r.1)) }
     ensures size { IfOk result (λ r. frame_length r.1 ≡ length frame.now) }
     ensures accepted { OnOk result (refusal_of port frame.now ≡ None) }
