@@ -1,24 +1,9 @@
 -- How a run ends, and what was read and written then, where the source and the sink tell it.
-use Rattle.std.specs.Prelude.{◌≡◌, ◌≢◌, ◌⊎◌, ◌+◌, ℕ, List, [], length, Option, take}
-use Rattle.std.specs.Io.KnownBytes.{Appends, Consumes, IsAtEnd, Keeps}
+use Rattle.std.specs.Prelude.{◌≡◌, ◌⊎◌, ◌+◌, ℕ, List, length, Option}
+use Rattle.std.specs.Io.KnownBytes.{Consumes, IsAtEnd, Keeps}
 use Rattle.kd_types.specs.declared.status.Status.{Status}
-use Rattle.kd_types.specs.declared.status.Status.TheVariants.{Done, BadWords, ReadFault, WriteFault, BadFrame, TooMuchInput, OutOfMemory}
-use Rattle.kdbusd.specs.Frames.{IsCut, HasNoFrame, joined}
-use Rattle.kdbusd.specs.Replay.{opening, replies}
-
--- a front of the replies to the first frames was written
-abbrev pub WritesFront : List ℕ → Option (List ℕ) → Option (List ℕ) → Type 0
-WritesFront bytes held_before held_after =
-    (frames : List (List ℕ)) × (rest : List ℕ) × (n : ℕ) × IsCut bytes frames rest × Appends held_before held_after (take n (replies opening frames))
-
--- what answering the frames of these bytes came to
-abbrev pub Answers : List ℕ → Option (List ℕ) → Option (List ℕ) → Status → Type 0
-Answers bytes held_before held_after Done = (frames : List (List ℕ)) × IsCut bytes frames [] × Appends held_before held_after (replies opening frames)
-Answers bytes held_before held_after (BadFrame at) =
-    (frames : List (List ℕ)) × (rest : List ℕ) × IsCut bytes frames rest × (rest ≢ []) × HasNoFrame rest × (at ≡ length (joined frames)) × Appends held_before held_after (replies opening frames)
-Answers bytes held_before held_after WriteFault = WritesFront bytes held_before held_after
-Answers bytes held_before held_after OutOfMemory = WritesFront bytes held_before held_after
-Answers bytes held_before held_after _ = ⊥
+use Rattle.kd_types.specs.declared.status.Status.TheVariants.{BadWords, ReadFault, TooMuchInput, OutOfMemory}
+use Rattle.kd_replay.specs.Transcript.{Answers}
 
 -- these bytes were all that the source had left
 abbrev pub WasReadToItsEnd : Option (List ℕ) → Option (List ℕ) → List ℕ → Type 0

@@ -3,12 +3,7 @@
 //! `kdbusd replay` reads recorded command frames from the standard input and writes the replies to the standard output.
 #![tactic(auto)]
 
-mod command;
-mod frames;
-mod replay;
-mod reply;
 mod run;
-mod visit;
 mod words;
 
 use kd_outside::{StdSink, StdSource};

@@ -1,49 +1,18 @@
 //! A run over recorded frames.
 
-ghost use Rattle.std.specs.Prelude.{◌≡◌, ◌≤◌, ◌↔◌, length};
+ghost use Rattle.std.specs.Prelude.{◌≡◌, ◌↔◌};
 ghost use Rattle.kd_outside.specs.Causes.{Rose};
 ghost use Rattle.kdbusd.specs.Words.{AreReplay};
-ghost use Rattle.kdbusd.specs.Ends.{Answers, IsRun};
+ghost use Rattle.kdbusd.specs.Ends.{IsRun};
 
-use crate::frames::frame_size;
-use crate::replay::Replay;
 use crate::words::is_replay;
-use kd_outside::{InputError, Sink, Source, read_to_end, write_whole};
+use kd_outside::{InputError, Sink, Source, read_to_end};
+use kd_replay::replay_frames;
 use kd_types::Status;
 use std::alloc::Global;
 
 /// How many bytes a run takes at most: it holds its whole input.
 const MOST_INPUT: usize = 16_777_216;
-
-/// Answers frame after frame.
-fn replay_frames<K: Sink>(alloc: Global, bytes: &[u8], sink: &mut K) -> Status
-    requires { length bytes.now ≤ 16777216 }
-    ensures answers { Answers bytes.now (K.held sink.old) (K.held sink.new) result }
-    ensures fault { result ≡ Status.WriteFault → Rose (K.faults sink.old) (K.faults sink.new) }
-    ensures later { K.faults sink.old ≤ K.faults sink.new }
-{
-    let mut rest = bytes;
-    let mut at = 0;
-    let mut replay = Replay::new(alloc);
-    let mut reply = Vec::new(alloc);
-    'frames: while let Some(size) = frame_size(rest) {
-        let (frame, behind) = rest.split_at(size);
-        reply.clear();
-        let Ok(()) = replay.answer(alloc, frame, &mut reply) else {
-            return Status::OutOfMemory;
-        };
-        let Ok(()) = write_whole(sink, &reply) else {
-            return Status::WriteFault;
-        };
-        rest = behind;
-        at += size;
-    }
-    if rest.is_empty() {
-        Status::Done
-    } else {
-        Status::BadFrame { at: at as u64 }
-    }
-}
 
 /// The run of `replay`: reads the source to its end, and answers its frames, each with one reply.
 ///

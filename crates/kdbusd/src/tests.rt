@@ -67,18 +67,6 @@ fn sink_of(alloc: Global, fails: &[u64]) -> Result<MemSink, AllocError> {
 }
 
 #[test]
-fn empty_input_is_answered_by_nothing(rt: HostRuntime) -> Result<(), Fail> {
-    let alloc = rt.alloc();
-    let (mut source, mut sink) = (source_of(alloc, &[], &[], &[])?, sink_of(alloc, &[])?);
-    assert_eq!(rt;
-        replay_run(alloc, &["replay"], &mut source, &mut sink),
-        Status::Done
-    );
-    assert!(rt; sink.held().is_empty());
-    Ok(())
-}
-
-#[test]
 fn each_frame_has_one_reply_in_whatever_pieces_it_comes(rt: HostRuntime) -> Result<(), Fail> {
     let alloc = rt.alloc();
     let mut source = source_of(alloc, &[&UNKNOWN, &HELLO], &[1, 2, 3, 40, 41], &[])?;

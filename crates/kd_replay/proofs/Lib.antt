@@ -1,0 +1,10 @@
+pub mod Cuts
+pub mod Lines
+pub mod Holding
+pub mod Visits
+pub mod Publishes
+pub mod Takes
+pub mod Modes
+pub mod Written
+pub mod Only
+pub mod Legal

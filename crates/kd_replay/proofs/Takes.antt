@@ -1,0 +1,65 @@
+-- What a take of the desk comes to.
+use Rattle.std.proofs.Common.{◌≡◌, ℕ, true, false, eq-eqb, Option, Some, None, Result, Ok, Err, refl, sym, ap, ◌∙◌}
+use Rattle.std.specs.Prelude.{◌==◌}
+use Rattle.kd_types.specs.declared.refusal.Refusal.{Refusal}
+use Rattle.kd_wire.specs.declared.command.Command.{Command}
+use Rattle.kd_wire.specs.declared.reply.Reply.TheVariants as reply
+use Rattle.kd_wire.specs.WellFormed.{is_well_formed}
+use Rattle.kd_desk.specs.Plans.{Plan}
+use Rattle.kd_core.specs.declared.event.Answer.TheVariants as answer
+use Rattle.kd_core.specs.World.{World, Holder, take, caller_at, planned, taken_answer, holder_by, holder_after, holds_desk, is_caller, is_for_desk, legal, says, step}
+use Rattle.kd_core.specs.Running.{may, said, is_run}
+use Rattle.kd_replay.specs.Turns.{Turn, IsReady, by_desk, alone, left, reply_of, visited}
+use Rattle.kd_replay.proofs.Holding.{callers_stay}
+
+abbrev pub plan_of : World → ℕ → Command → Result Plan Refusal
+plan_of w n x = planned w.desk (caller_at w n).who x
+
+-- the take was refused
+pub record IsTurnedAway (w : World) (n : ℕ) (x : Command) (why : Refusal) : Type 0 where
+  pub next : (by_desk w n x).next ≡ step w (take n x)
+  pub reply : (by_desk w n x).reply ≡ reply.Refused why
+  pub ready : IsReady (step w (take n x))
+
+-- the caller has the desk
+pub record IsIn (w : World) (n : ℕ) (x : Command) : Type 0 where
+  pub holds : holds_desk (step w (take n x)) n ≡ true
+  pub turn : by_desk w n x ≡ left (visited (step w (take n x)) n) n
+
+pub answer_of : (w : World) (n : ℕ) (x : Command) (r : Result Plan Refusal) → r ≡ plan_of w n x → said (take n x) (says w (take n x)) ≡ said (take n x) (taken_answer r)
+unfolding says
+answer_of w n x r e = rw e refl
+
+holder_of : (w : World) (n : ℕ) (x : Command) (r : Result Plan Refusal) → r ≡ plan_of w n x → (step w (take n x)).holder ≡ holder_by n (caller_at w n).who x r
+unfolding holder_after
+holder_of w n x r e = rw e refl
+
+turned_away_by : (w : World) (n : ℕ) (x : Command) (why : Refusal) → IsReady w → (step w (take n x)).holder ≡ None → said (take n x) (says w (take n x)) ≡ answer.Refused why → IsTurnedAway w n x why
+unfolding by_desk reply_of
+turned_away_by w n x why r none e =
+    let turn : by_desk w n x ≡ alone w (take n x) = ap (λ (o : Option Holder). elim o [ None ↦ alone w (take n x) | Some h ↦ left (visited (step w (take n x)) n) n ]) none in
+    record { next = ap (λ (t : Turn). t.next) turn; reply = ap (λ (t : Turn). t.reply) turn ∙ ap reply_of e; ready = record { free = none; callers = callers_stay w (take n x) ∙ r.callers } }
+
+turned_by : (w : World) (n : ℕ) (x : Command) (why : Refusal) (r : Result Plan Refusal) → r ≡ plan_of w n x → IsReady w → said (take n x) (says w (take n x)) ≡ answer.Refused why → IsTurnedAway w n x why
+turned_by w n x why (Err f) is r e = turned_away_by w n x why r (holder_of w n x (Err f) is) e
+turned_by w n x why (Ok p) is r e = let both : answer.Taken ≡ answer.Refused why = sym (answer_of w n x (Ok p) is) ∙ e in absurd cc
+
+pub turned_away : (w : World) (n : ℕ) (x : Command) (why : Refusal) → IsReady w → said (take n x) (says w (take n x)) ≡ answer.Refused why → IsTurnedAway w n x why
+turned_away w n x why r e = turned_by w n x why (plan_of w n x) refl r e
+
+in_by : (w : World) (n : ℕ) (x : Command) (r : Result Plan Refusal) → r ≡ plan_of w n x → ((why : Refusal) → said (take n x) (says w (take n x)) ≡ answer.Refused why → ⊥) → IsIn w n x
+unfolding by_desk
+in_by w n x (Err f) is never = absurd (never f (answer_of w n x (Err f) is))
+in_by w n x (Ok p) is never =
+    let h = holder_of w n x (Ok p) is in
+    record {
+      holds = ap (λ (o : Option Holder). elim o [ None ↦ false | Some h ↦ h.caller == n ]) h ∙ eq-eqb n n refl;
+      turn = ap (λ (o : Option Holder). elim o [ None ↦ alone w (take n x) | Some h ↦ left (visited (step w (take n x)) n) n ]) h;
+    }
+
+pub taken : (w : World) (n : ℕ) (x : Command) → ((why : Refusal) → said (take n x) (says w (take n x)) ≡ answer.Refused why → ⊥) → IsIn w n x
+taken w n x never = in_by w n x (plan_of w n x) refl never
+
+pub take_may : (w : World) (n : ℕ) (x : Command) → is_caller n ≡ true → IsReady w → is_for_desk x ≡ true → is_well_formed x ≡ true → is_run w (take n x) ≡ true → may w (take n x) ≡ true
+unfolding may legal
+take_may w n x c r desk form run = rw (c, r.free, desk, form, run) refl

@@ -1,0 +1,45 @@
+use Rattle.std.proofs.Common.{◌≡◌, true, length, ◌∙◌, sym, ap, subst}
+use Rattle.kd_core.specs.World.{World, holds_desk, leave, step, take}
+use Rattle.kd_replay.specs.Turns.{Turn, IsReady, published, reply_of, reply_to, visited}
+use Rattle.kd_replay.proofs.Holding.{callers_stay, free_behind_leave}
+use Rattle.kd_replay.proofs.Takes.{turned_away, taken}
+use Rattle.kd_replay.proofs.Visits.{leave_may}
+use Rattle.kd_replay.proofs.running.run_at_desk.Goals as goal
+
+pub returns-in-Refused-clause-next : goal.returns-in-Refused-clause-next
+returns-in-Refused-clause-next c =
+    let away = turned_away c.args.world.now.world c.args.caller c.args.command c.in-Refused.refusal c.requires.ready (sym c.in_ok-taken.ensures.answer ∙ c.in-Refused.is) in
+    c.in_ok-taken.ensures.next ∙ sym away.next
+
+pub returns-in-Refused-clause-reply : goal.returns-in-Refused-clause-reply
+returns-in-Refused-clause-reply c =
+    let away = turned_away c.args.world.now.world c.args.caller c.args.command c.in-Refused.refusal c.requires.ready (sym c.in_ok-taken.ensures.answer ∙ c.in-Refused.is) in
+    sym away.reply
+
+pub returns-in-Refused-clause-ready : goal.returns-in-Refused-clause-ready
+returns-in-Refused-clause-ready c =
+    let away = turned_away c.args.world.now.world c.args.caller c.args.command c.in-Refused.refusal c.requires.ready (sym c.in_ok-taken.ensures.answer ∙ c.in-Refused.is) in
+    subst IsReady (sym c.in_ok-taken.ensures.next) away.ready
+
+pub visit-requires : goal.visit-requires
+visit-requires c =
+    let inside = taken c.args.world.now.world c.args.caller c.args.command (λ why e. c.in_default.not-Refused why (c.in_ok-taken.ensures.answer ∙ e)) in
+    record { caller = c.requires.caller; holds = subst (λ (w : World). holds_desk w c.args.caller ≡ true) (sym c.in_ok-taken.ensures.next) inside.holds }
+
+pub step-requires-2 : goal.step-requires-2
+step-requires-2 c = leave_may c.visit.new.world.world c.args.caller c.in_ok-visit.ensures.all c.in_ok-visit.ensures.holds c.requires.caller
+
+pub publish-requires : goal.publish-requires
+publish-requires c =
+    let callers = c.in_ok-visit.ensures.callers ∙ ap (λ (w : World). length w.callers) c.in_ok-taken.ensures.next ∙ callers_stay c.args.world.now.world (take c.args.caller c.args.command) ∙ c.requires.ready.callers in
+    record { caller = c.requires.caller; ready = subst IsReady (sym c.in_ok-answer.ensures.next) (free_behind_leave c.visit.new.world.world c.args.caller callers) }
+
+pub returns : goal.returns
+returns c =
+    let inside = taken c.args.world.now.world c.args.caller c.args.command (λ why e. c.in_default.not-Refused why (c.in_ok-taken.ensures.answer ∙ e)) in
+    let seen = c.in_ok-visit.ensures.next ∙ ap (λ (w : World). visited w c.args.caller) c.in_ok-taken.ensures.next in
+    record {
+      next = c.in_ok-publish.ensures.next ∙ ap (λ (w : World). published w c.args.caller) (c.in_ok-answer.ensures.next ∙ ap (λ (w : World). step w (leave c.args.caller)) seen) ∙ sym (ap (λ (t : Turn). t.next) inside.turn);
+      reply = c.reply_of.ensures ∙ ap reply_of c.in_ok-answer.ensures.answer ∙ ap (λ (w : World). reply_to w (leave c.args.caller)) seen ∙ sym (ap (λ (t : Turn). t.reply) inside.turn);
+      ready = c.in_ok-publish.ensures.ready;
+    }

@@ -1,0 +1,222 @@
+//! A command, run whole.
+
+ghost use Rattle.std.specs.Prelude.{◌≡◌, length, true, IfOk, IsTrue, None, OnOk};
+ghost use Rattle.kd_wire.specs.Commands.{opcode_in};
+ghost use Rattle.kd_wire.specs.Ports.{runs};
+ghost use Rattle.kd_wire.specs.WellFormed.{is_well_formed};
+ghost use Rattle.kd_wire.specs.declared.port.Port.TheVariants.{Replay};
+ghost use Rattle.kd_core.specs.World.{holds_desk, is_caller, is_for_desk, publishes, says, step, take};
+ghost use Rattle.kd_core.specs.Running.{event_of, may, next_seat, said};
+ghost use Rattle.kd_replay.specs.Turns.{by_desk, at_desk, mode_of, published, reply_of, slice_number, turn, visited, IsReady};
+
+use kd_core::{Answer, Event, World};
+use kd_pool::RecvMode;
+use kd_types::{RecvFlags, Refusal, Seat, SliceNo};
+use kd_wire::{Command, Reply};
+use std::alloc::{AllocError, Global};
+
+/// How many events a world runs at most.
+const MOST_EVENTS: u64 = 1 << 54;
+
+/// The greatest number of 32 bits, which stands for all above it.
+const GREATEST: u64 = 4_294_967_295;
+
+/// One event. A world that has run as many as it may takes no further one, as if memory were wanting.
+#[tactic(auto, unfolding(kd_core::specs::Running::stepped))]
+fn step(world: &mut World, alloc: Global, event: Event) -> Result<Answer, AllocError>
+    requires { IsTrue (may world.old.world (event_of event)) }
+    ensures next { OnOk result (world.new.world ≡ step world.old.world (event_of event)) }
+    ensures answer { IfOk result (λ a. a ≡ said (event_of event) (says world.old.world (event_of event))) }
+{
+    if world.steps() >= MOST_EVENTS {
+        return Err(AllocError);
+    }
+    world.step(alloc, event)
+}
+
+/// One event whose answer no reply tells.
+fn advance(world: &mut World, alloc: Global, event: Event) -> Result<(), AllocError>
+    requires { IsTrue (may world.old.world (event_of event)) }
+    ensures { OnOk result (world.new.world ≡ step world.old.world (event_of event)) }
+{
+    step(world, alloc, event)?;
+    Ok(())
+}
+
+/// The reply of a frame that ends with this answer.
+#[tactic(auto, unfolding(crate::specs::Turns::reply_of))]
+fn reply_of(answer: Answer) -> Reply
+    ensures { result ≡ reply_of answer }
+{
+    match answer {
+        Answer::Left(reply) => reply,
+        Answer::Got(got) => Reply::Recv {
+            number: u64::from(got.number.0),
+            offset: u64::from(got.offset),
+            length: u64::from(got.length),
+            dropped: got.dropped,
+        },
+        Answer::Bytes(bytes) => Reply::Read { bytes },
+        Answer::Freed => Reply::Free,
+        Answer::Refused(refusal) => Reply::Refused(refusal),
+        _ => Reply::Refused(Refusal::WrongState),
+    }
+}
+
+/// Makes all visits of the caller that holds the desk.
+fn visit(world: &mut World, alloc: Global, caller: u64) -> Result<(), AllocError>
+    requires caller { IsTrue (is_caller caller) }
+    requires holds { holds_desk world.old.world caller ≡ true }
+    ensures next { OnOk result (world.new.world ≡ visited world.old.world caller) }
+    ensures holds { OnOk result (holds_desk world.new.world caller ≡ true) }
+    ensures all { OnOk result (next_seat world.new.world ≡ None) }
+    ensures callers { OnOk result (length world.new.world.callers ≡ length world.old.world.callers) }
+{
+    'parts: while let Some(seat) = world.next_seat() {
+        advance(world, alloc, Event::Visit { caller, seat })?;
+    }
+    Ok(())
+}
+
+/// The publishing of the message that is pending for this seat and slice.
+fn publishing(caller: u64, place: (Seat, SliceNo)) -> Event
+    ensures { event_of result ≡ publishes caller place.0 place.1 }
+{
+    let (seat, number) = place;
+    Event::Publish {
+        caller,
+        seat,
+        number: number.0,
+    }
+}
+
+/// Publishes all that the caller has pending.
+fn publish(world: &mut World, alloc: Global, caller: u64) -> Result<(), AllocError>
+    requires caller { IsTrue (is_caller caller) }
+    requires ready { IsReady world.old.world }
+    ensures next { OnOk result (world.new.world ≡ published world.old.world caller) }
+    ensures ready { OnOk result (IsReady world.new.world) }
+{
+    'pendings: while let Some(place) = world.next_publish(caller) {
+        advance(world, alloc, publishing(caller, place))?;
+    }
+    Ok(())
+}
+
+/// Runs a command at the desk: the take, the visits, the leave and the publishes, unless it is refused at the take.
+fn run_at_desk(
+    world: &mut World,
+    alloc: Global,
+    caller: u64,
+    command: Command,
+) -> Result<Reply, AllocError>
+    requires caller { IsTrue (is_caller caller) }
+    requires may { IsTrue (may world.old.world (take caller command)) }
+    requires ready { IsReady world.old.world }
+    ensures next { OnOk result (world.new.world ≡ (by_desk world.old.world caller command).next) }
+    ensures reply { IfOk result (λ r. r ≡ (by_desk world.old.world caller command).reply) }
+    ensures ready { OnOk result (IsReady world.new.world) }
+{
+    let taken = step(world, alloc, Event::Take { caller, command })?;
+    if let Answer::Refused(refusal) = taken {
+        return Ok(Reply::Refused(refusal));
+    }
+    visit(world, alloc, caller)?;
+    let answer = step(world, alloc, Event::Leave { caller })?;
+    publish(world, alloc, caller)?;
+    Ok(reply_of(answer))
+}
+
+/// Runs an event that is a frame's only one.
+fn run_alone(world: &mut World, alloc: Global, event: Event) -> Result<Reply, AllocError>
+    requires { IsTrue (may world.old.world (event_of event)) }
+    ensures next { OnOk result (world.new.world ≡ step world.old.world (event_of event)) }
+    ensures reply { IfOk result (λ r. r ≡ reply_of (said (event_of event) (says world.old.world (event_of event)))) }
+{
+    let answer = step(world, alloc, event)?;
+    Ok(reply_of(answer))
+}
+
+/// How a receive with these flags takes its message.
+fn mode_of(flags: RecvFlags, limit: i64) -> RecvMode
+    ensures { result ≡ mode_of flags limit }
+{
+    RecvMode {
+        peek: flags.peeks(),
+        drop_it: flags.drops(),
+        limit: if flags.has_limit() { Some(limit) } else { None },
+    }
+}
+
+/// The number of a slice as an event has it.
+fn slice_number(number: u64) -> u32
+    ensures { result ≡ slice_number number }
+{
+    number.min(GREATEST) as u32
+}
+
+/// Runs a command at the desk, unless it isn't run yet.
+#[tactic(auto, unfolding(crate::specs::Turns::at_desk))]
+fn run_or_refuse(
+    world: &mut World,
+    alloc: Global,
+    caller: u64,
+    command: Command,
+) -> Result<Reply, AllocError>
+    requires caller { IsTrue (is_caller caller) }
+    requires desk { IsTrue (is_for_desk command) }
+    requires form { IsTrue (is_well_formed command) }
+    requires ready { IsReady world.old.world }
+    ensures next { OnOk result (world.new.world ≡ (at_desk world.old.world caller command).next) }
+    ensures reply { IfOk result (λ r. r ≡ (at_desk world.old.world caller command).reply) }
+    ensures ready { OnOk result (IsReady world.new.world) }
+{
+    if world.runs(caller, &command) {
+        run_at_desk(world, alloc, caller, command)
+    } else {
+        Ok(Reply::Refused(Refusal::Unsupported {
+            cmd: command.opcode().number(),
+        }))
+    }
+}
+
+/// Runs a command of a caller whole, with nothing between its events.
+#[tactic(auto, unfolding(crate::specs::Turns::turn))]
+pub fn run(
+    world: &mut World,
+    alloc: Global,
+    caller: u64,
+    command: Command,
+) -> Result<Reply, AllocError>
+    requires caller { IsTrue (is_caller caller) }
+    requires command { runs Replay (opcode_in command) ≡ true }
+    requires form { IsTrue (is_well_formed command) }
+    requires ready { IsReady world.old.world }
+    ensures next { OnOk result (world.new.world ≡ (turn world.old.world caller command).next) }
+    ensures reply { IfOk result (λ r. r ≡ (turn world.old.world caller command).reply) }
+    ensures ready { OnOk result (IsReady world.new.world) }
+{
+    match command {
+        Command::Recv { flags, limit } => {
+            let mode = mode_of(flags, limit);
+            run_alone(world, alloc, Event::Receive { caller, mode })
+        }
+        Command::Read { sealed, number } => {
+            let number = slice_number(number);
+            run_alone(
+                world,
+                alloc,
+                Event::Read {
+                    caller,
+                    number,
+                    sealed,
+                },
+            )
+        }
+        Command::Free { number } => {
+            let number = slice_number(number);
+            run_alone(world, alloc, Event::Free { caller, number })
+        }
+        command => run_or_refuse(world, alloc, caller, command),
+    }
+}
