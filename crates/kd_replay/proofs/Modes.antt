@@ -8,18 +8,15 @@ use Rattle.kd_types.specs.Flags.{has_bits}
 use Rattle.kd_wire.specs.declared.opcode.Opcode.TheVariants as opcodes
 use Rattle.kd_wire.specs.declared.command.Command.{Command}
 use Rattle.kd_wire.specs.declared.command.Command.TheVariants as cmd
-use Rattle.kd_wire.specs.declared.port.Port.TheVariants.{Replay}
-use Rattle.kd_wire.specs.Commands.{opcode_in}
 use Rattle.kd_wire.specs.Frames.{frame_length}
 use Rattle.kd_wire.specs.Kinds.{kinds_of}
-use Rattle.kd_wire.specs.Ports.{runs}
 use Rattle.kd_wire.specs.Reading.{stand}
 use Rattle.kd_wire.specs.Refusals.{flaw_of}
 use Rattle.kd_wire.specs.WellFormed.{is_well_formed}
 use Rattle.kd_wire.proofs.Parts.{both, flawless}
-use Rattle.kd_core.specs.World.{World, receives, reads, frees, is_caller, is_for_desk, legal}
+use Rattle.kd_core.specs.World.{World, receives, reads, frees, is_caller, legal}
 use Rattle.kd_core.specs.Running.{may}
-use Rattle.kd_replay.specs.Turns.{IsReady, at_desk, mode_of, turn}
+use Rattle.kd_replay.specs.Turns.{IsReady, mode_of}
 use Rattle.kd_replay.proofs.Publishes.{nobody}
 
 -- with the two lowest bits at once both are set

@@ -35,12 +35,20 @@ fn bytes_of(alloc: Global, words: &[&[u64]]) -> Result<Vec<u8>, AllocError> {
     Ok(bytes)
 }
 
+/// What a short stream comes to.
+fn replay(alloc: Global, bytes: &[u8], sink: &mut MemSink) -> Status {
+    if bytes.len() > 1024 {
+        return Status::TooMuchInput;
+    }
+    replay_frames(alloc, bytes, sink)
+}
+
 #[test]
 fn a_message_goes_from_caller_to_caller(rt: HostRuntime) -> Result<(), Fail> {
     let alloc = rt.alloc();
     let mut sink = MemSink::make(vec![in alloc; 0u8; 1024]?, Vec::new(alloc));
     assert_eq!(rt;
-        replay_frames(alloc, &bytes_of(alloc, &FRAMES)?, &mut sink),
+        replay(alloc, &bytes_of(alloc, &FRAMES)?, &mut sink),
         Status::Done
     );
     assert_eq!(rt; sink.held(), bytes_of(alloc, &REPLIES)?.as_slice());
@@ -54,7 +62,7 @@ fn the_replies_of_the_frames_before_a_bad_one_stand(rt: HostRuntime) -> Result<(
     let mut bytes = bytes_of(alloc, &FRAMES)?;
     bytes.extend_from_slice(&[40, 0, 0])?;
     assert_eq!(rt;
-        replay_frames(alloc, &bytes, &mut sink),
+        replay(alloc, &bytes, &mut sink),
         Status::BadFrame { at: 304 }
     );
     assert_eq!(rt; sink.held(), bytes_of(alloc, &REPLIES)?.as_slice());
