@@ -251,7 +251,10 @@ fn a_seat_is_used_again_and_an_id_is_not(rt: HostRuntime) -> Result<(), Fail> {
     script.sends(2, 1)?;
     script.sends(2, 3)?;
     let answers = script.run(12)?;
-    assert_eq!(rt; answers.as_slice(), [Seen::Refused(Refusal::NoSuchConnection), Seen::Taken].as_slice());
+    assert_eq!(rt;
+        answers.as_slice(),
+        [Seen::Refused(Refusal::NoSuchConnection), Seen::Taken].as_slice()
+    );
     Ok(())
 }
 
