@@ -30,7 +30,7 @@ is_plain (item.Payload bytes) = true
 is_plain (item.DstName n) = true
 is_plain _ = false
 
--- it goes to one receiver, expects no reply, and has payloads alone
+-- it goes to one receiver, expects no reply, and has nothing but payloads and the name that it is sent to
 abbrev pub is_plain_send : SendFlags → ℕ → List WireItem → Bool
 is_plain_send flags dst is = not (has_bits flags.0 1) && not (dst == any) && all_of is_plain is
 

@@ -32,7 +32,7 @@ fn is_plain(item: &WireItem) -> bool
     matches!(item, WireItem::Payload(_) | WireItem::DstName(_))
 }
 
-/// Whether a message goes to one receiver, expects no reply, and has payloads alone.
+/// Whether a message goes to one receiver, expects no reply, and has nothing but payloads and the name that it is sent to.
 fn is_plain_send(flags: SendFlags, dst: u64, items: &[WireItem]) -> bool
     ensures { result ≡ is_plain_send flags dst items.now }
 {
