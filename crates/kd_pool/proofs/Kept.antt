@@ -17,6 +17,7 @@ use Rattle.kd_pool.specs.Steps.{filled, offset_of, queued, with_content, written
 use Rattle.kd_pool.specs.Table.{AreKept, IsCarried, in_phase, now_queued, shown}
 use Rattle.kd_pool.specs.declared.slot.Phase.{Phase}
 use Rattle.kd_pool.specs.declared.slot.Slot.{Slot}
+use Rattle.kd_pool.proofs.Apart.{all_under}
 use Rattle.kd_pool.proofs.Publishes.{all_behind, all_stand, all_published}
 use Rattle.kd_pool.proofs.Views.{finds_put, slots_shown}
 
@@ -184,8 +185,4 @@ fills m b ss room arrival dropped offered n image priority t k found fits =
 
 -- a slot with an unused number is found once it is in the table
 pub finds_reserved : (m : List ℕ) (b : Book) (ss : List Slot) (room n : ℕ) (t : Slot) → AreKept m b ss room → model.unused_number b ≡ Some n → t.number ≡ n → find (has_number n) (put_in_order is_lower t ss) ≡ Some t
-finds_reserved m b ss room n t k h e = finds_put n t ss (grind (arith, nat_tests)) (free ss (rw k.tied at (unused_is_free b n h)))
-  where
-    free : (ts : List Slot) → AllByRecursion (λ p. model.has_number n p ≡ false) (map placed_of ts) → AllByRecursion (λ (s : Slot). has_number n s ≡ false) ts
-    free [] a = tt
-    free (t ∷ ts) a = (a.0, free ts a.1)
+finds_reserved m b ss room n t k h e = finds_put n t ss (grind (arith, nat_tests)) (all_under (λ p. model.has_number n p ≡ false) placed_of ss (rw k.tied at (unused_is_free b n h)))

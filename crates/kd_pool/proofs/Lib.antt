@@ -1,6 +1,13 @@
+pub mod Added
+pub mod Apart
+pub mod Cases
+pub mod Changes
 pub mod Drains
 pub mod Fills
+pub mod Handed
+pub mod Handing
 pub mod Kept
+pub mod Lasting
 pub mod Longs
 pub mod Offers
 pub mod Picks
@@ -8,6 +15,7 @@ pub mod Publishes
 pub mod Receives
 pub mod RowsPool
 pub mod Shares
+pub mod Stays
 pub mod Sweeps
 pub mod Views
 pub mod Writes

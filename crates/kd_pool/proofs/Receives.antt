@@ -1,5 +1,6 @@
 -- What a receive comes to, case by case.
 use Rattle.std.specs.Prelude.{◌≡◌, ℕ, Bool, true, false, List, Option, Some, None, refl, ℤ}
+use Rattle.std.specs.List.{AllByRecursion}
 use Rattle.std.proofs.Common.{ap, ◌∙◌}
 use Rattle.kd_types.specs.declared.refusal.Refusal.TheVariants.{NoMessage, NoSuchPriority}
 use Rattle.kd_model.proofs.Lists.{all_of_filter}
@@ -22,11 +23,15 @@ receives mode p ss o b e n w =
     told : Option Slot → Bool → Pool × Answer
     told o b = elim o [ Some s ↦ (with_dropped 0 (after_taking mode s.number p), got s.number s.offset s.len p.dropped) | None ↦ elim b [ true ↦ (p, refused NoSuchPriority) | false ↦ (with_dropped 0 p, refused (NoMessage p.dropped)) ] ]
 
--- the slot that is next is in the table
-pub next_among : (ss : List Slot) (limit : Option ℤ) (s : Slot) → next ss limit ≡ Some s → some_of (has_number s.number) ss ≡ true
+-- what holds of each slot of the table holds of the one that is next
+pub all_of_next : (P : Slot → Type 0) (ss : List Slot) (limit : Option ℤ) (s : Slot) → AllByRecursion P ss → next ss limit ≡ Some s → P s
 unfolding next
-next_among ss None s h = all_of_least (λ (x : Slot). some_of (has_number x.number) ss ≡ true) is_earlier (those is_waiting ss) s (all_of_filter _ is_waiting ss (each_among ss)) h
-next_among ss (Some limit) s h = all_of_least (λ (x : Slot). some_of (has_number x.number) ss ≡ true) goes_before (those (is_within limit) ss) s (all_of_filter _ (is_within limit) ss (each_among ss)) h
+all_of_next P ss None s a e = all_of_least P is_earlier (those is_waiting ss) s (all_of_filter P is_waiting ss a) e
+all_of_next P ss (Some limit) s a e = all_of_least P goes_before (those (is_within limit) ss) s (all_of_filter P (is_within limit) ss a) e
+
+-- it is in the table
+pub next_among : (ss : List Slot) (limit : Option ℤ) (s : Slot) → next ss limit ≡ Some s → some_of (has_number s.number) ss ≡ true
+next_among ss limit s e = all_of_next (λ (x : Slot). some_of (has_number x.number) ss ≡ true) ss limit s (each_among ss) e
 
 -- counting anew and taking the slice go in either order
 pub takes_either_way : (mode : RecvMode) (n : ℕ) (p : Pool) → with_dropped 0 (after_taking mode n p) ≡ after_taking mode n (with_dropped 0 p)

@@ -20,6 +20,7 @@
 
 mod drained;
 mod giving;
+mod laws;
 mod memory;
 mod pool;
 mod receive;
@@ -27,5 +28,6 @@ mod slot;
 mod table;
 
 pub use drained::Drained;
+pub use laws::{handed_follows, numbers_stay, open_follows, receives_waiting, slices_last};
 pub use pool::Pool;
 pub use receive::{Got, RecvMode};
