@@ -13,3 +13,13 @@ pub mod Listed
 pub mod Offering
 pub mod Sorted
 pub mod Planned
+pub mod Asides
+pub mod Finds
+pub mod Members
+pub mod Moves
+pub mod Staying
+pub mod Moving
+pub mod Callers
+pub mod Others
+pub mod Opens
+pub mod Seating

@@ -1,10 +1,13 @@
 -- The lowest free seat.
-use Rattle.std.specs.Prelude.{◌≡◌, ◌<◌, ◌≤◌, ◌+◌, ◌-◌, ℕ, true, false, Option, cond, refl, Some, None}
+use Rattle.std.specs.Prelude.{◌≡◌, ◌<◌, ◌≤◌, ◌+◌, ◌-◌, ℕ, true, false, not, Option, cond, refl, Some, None}
 use Rattle.std.specs.List.{AllByRecursion, find, range_with_len}
 use Rattle.std.proofs.Common.{ap, arith, suc, zero, ◌∙◌}
-use Rattle.kd_model.proofs.Lists.{all_follow, all_of_found}
+use Rattle.std.proofs.lemmas.Bool.{and_parts, not-true}
+use Rattle.kd_model.specs.Words.{contains}
+use Rattle.kd_model.proofs.Lists.{all_follow, all_of_found, found_passes}
 use Rattle.kd_desk.specs.State.{Desk}
 use Rattle.kd_desk.specs.Hello.{free_seat, is_free}
+use Rattle.kd_desk.specs.Seating.{is_live}
 
 -- the lowest free seat from one on
 unfoldable pub free_from : Desk → ℕ → Option ℕ
@@ -39,3 +42,15 @@ range_below (suc n) from = (omega arith, all_follow _ _ _ (λ k h. omega arith) 
 pub free_below : (d : Desk) (n : ℕ) → free_seat d ≡ Some n → n < 64
 unfolding free_seat
 free_below d n h = all_of_found (λ k. k < 64) (is_free d) (range_with_len 0 64) n (range_below 64 0) h
+
+-- what is found is free
+pub found_is_free : (d : Desk) (n : ℕ) → free_seat d ≡ Some n → is_free d n ≡ true
+unfolding free_seat
+found_is_free d n h = found_passes (is_free d) (range_with_len 0 64) n h
+
+-- no live connection has it, nor does it wait
+pub free_has_none : (d : Desk) (n : ℕ) → is_free d n ≡ true → is_live d n ≡ false
+free_has_none d n h = not-true (is_live d n) (and_parts (not (is_live d n)) (not (contains n d.blocked)) h).0
+
+pub free_is_unblocked : (d : Desk) (n : ℕ) → is_free d n ≡ true → contains n d.blocked ≡ false
+free_is_unblocked d n h = not-true (contains n d.blocked) (and_parts (not (is_live d n)) (not (contains n d.blocked)) h).1

@@ -18,3 +18,4 @@ pub mod Listing
 pub mod News
 pub mod Arriving
 pub mod Sending
+pub mod Seating

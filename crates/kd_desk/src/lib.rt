@@ -11,7 +11,8 @@
 //! What a plan is stands in `specs/`, command by command, over the definitions of the crates below: claims, policy, labels, rules,
 //! seals, requests and images. The code plans the commands of `Runs`: HELLO of an ordinary connection on the default endpoint, SEND to
 //! one receiver without an expected reply, BYEBYE, CLOSE, ENTER, and the three on names; every other is refused as `Unsupported`.
-//! A planner is a file of its own: `hello`, `sending`, `leaving`, `naming`, `listing`; `finishing` makes the change of a plan.
+//! A planner is a file of its own: `hello`, `sending`, `leaving`, `naming`, `listing`; `finishing` makes the change of a plan. `laws` has
+//! what is proved of every plan: who sits where after it, and which pools are open while it is visited.
 #![tactic(auto)]
 
 mod attaching;
@@ -21,6 +22,7 @@ mod content;
 mod desk;
 mod finishing;
 mod hello;
+mod laws;
 mod leaving;
 mod listing;
 mod naming;
@@ -37,6 +39,10 @@ mod who;
 pub use conn::Conn;
 pub use content::Content;
 pub use desk::{Desk, SEATS};
+pub use laws::{
+    callers_move, open_pools_have_live_connections, open_pools_stay, others_stay,
+    pools_are_raised_at_free_seats, the_desk_stays_seated,
+};
 pub use part::{Out, Part};
 pub use plan::Plan;
 pub use who::{Who, WhoKind};
