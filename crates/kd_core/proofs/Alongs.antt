@@ -1,13 +1,15 @@
 -- Lists of events, one event more at the end.
-use Rattle.std.specs.Prelude.{◌≡◌, ℕ, ◌+◌, ◌++◌, ◌&&◌, Bool, true, false, IsNone, List, [], ◌∷◌, Option, Some, None, length, IsTrue, take, map}
+use Rattle.std.specs.Prelude.{◌≡◌, ℕ, ◌+◌, ◌++◌, ◌&&◌, Bool, true, false, IsNone, List, [], ◌∷◌, Option, Some, None, length, IsTrue, take, map, OnErr, OnOk, Result, Ok, Err}
 use Rattle.std.proofs.Common.{refl, sym, subst, ap, ◌∙◌, arith}
 use Rattle.std.proofs.lemmas.List.{length-map}
 use Rattle.std.proofs.Math.Seq.{take-append_seam}
 use Rattle.std.proofs.lemmas.Bool.{true≢false}
-use Rattle.kd_core.specs.World.{World, Event, all_legal, legal, new_world, runs, step, says}
+use Rattle.kd_world.specs.World.{World, Event, all_legal, legal, new_world, runs, step, says}
 use Rattle.kd_core.specs.Running.{Running, is_run, may, said, stepped}
-use Rattle.kd_core.specs.Tie.{IsOffered}
-use Rattle.kd_core.proofs.Tied.{addressed_is_offered}
+use Rattle.kd_world.specs.Agreed.{HandsAgree, IsReached}
+use Rattle.kd_world.specs.Tie.{IsOffered, IsOfferedSoFar}
+use Rattle.kd_world.proofs.Reached.{hands_always_agree, reached_on}
+use Rattle.kd_world.proofs.Tied.{addressed_is_offered, offered_so_far}
 use Rattle.kd_core.specs.Along.{barred_by, first_barred, ran, said_along}
 
 pub ran_more : (r : Running) (es : List Event) (e : Event) → ran r (es ++ e ∷ []) ≡ stepped (ran r es) e
@@ -79,6 +81,26 @@ legal_along w (e ∷ es) h =
     let g = goes_on (may w e) (first_barred (step w e) es) h in
     both_hold (legal w e) (is_run w e) (all_legal (step w e) es) g.0 (legal_along (step w e) es g.1)
 
+-- an answer, or want of memory
+pub either_way : {X Y A B : Type 0} (C : Type 0) (r : Result X Y) → OnOk r A → OnErr r B → (A → C) → (B → C) → C
+either_way C (Ok x) a b f g = f a
+either_way C (Err e) a b f g = g b
+
+may_legal : (a b : Bool) → a && b ≡ true → a ≡ true
+may_legal true b h = refl
+may_legal false b h = absurd (true≢false (sym h))
+
+-- what may happen leads on from a world that legal events led to
+pub reached_by : (w : World) (e : Event) → may w e ≡ true → IsReached w → IsReached (step w e)
+unfolding may
+reached_by w e m = reached_on w e (may_legal (legal w e) (is_run w e) m)
+
+pub reached_along : (r : Running) (es : List Event) → first_barred r.world es ≡ None → IsReached r.world → IsReached (ran r es).world × HandsAgree (ran r es).world
+unfolding first_barred ran stepped
+reached_along r [] h f = (f, hands_always_agree r.world f)
+reached_along r (e ∷ es) h f =
+    let g = goes_on (may r.world e) (first_barred (step r.world e) es) h in reached_along (stepped r e) es g.1 (reached_by r.world e g.0 f)
+
 -- from the opening of a bus, when the desk is free again
 pub offered_along : (creator size hashes c : ℕ) (r : Running) (es : List Event) → r.world ≡ new_world creator size hashes → first_barred r.world es ≡ None → IsNone ((ran r es).world.holder)
     → IsOffered creator size hashes c es
@@ -86,3 +108,8 @@ offered_along creator size hashes c r es e f n =
     let w : World = new_world creator size hashes in
     let free : IsNone ((runs w es).holder) = subst (λ (x : World). IsNone x.holder) (runs_along r es ∙ ap (λ x. runs x es) e) n in
     addressed_is_offered creator size hashes es c (legal_along w es (ap (λ x. first_barred x es) (sym e) ∙ f)) free
+
+-- and at any time
+pub held_along : (creator size hashes c : ℕ) (r : Running) (es : List Event) → r.world ≡ new_world creator size hashes → first_barred r.world es ≡ None
+    → IsOfferedSoFar creator size hashes c es
+held_along creator size hashes c r es e f = offered_so_far creator size hashes es c (legal_along (new_world creator size hashes) es (ap (λ x. first_barred x es) (sym e) ∙ f))

@@ -4,7 +4,7 @@ use Rattle.std.specs.List.{AllByRecursion}
 use Rattle.kd_pool.specs.State.{Act, Hold}
 use Rattle.kd_pool.specs.Steps.{after}
 use Rattle.kd_core.specs.Counts.{IsBelow, is_settle}
-use Rattle.kd_core.specs.World.{closed}
+use Rattle.kd_world.specs.World.{closed}
 use Rattle.kd_core.proofs.Counting.{counts_by_one, weaker_below}
 
 -- a higher bound

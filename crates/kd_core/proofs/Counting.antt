@@ -3,7 +3,7 @@ use Rattle.std.specs.Prelude.{◌≡◌, ◌≤◌, ◌+◌, ◌&&◌, ◌==◌,
 use Rattle.std.proofs.Common.{ap, arith, ◌∙◌, replicate, zero, suc}
 use Rattle.std.specs.List.{AllByRecursion}
 use Rattle.kd_desk.specs.State.{Desk, opening}
-use Rattle.kd_core.specs.World.{closed}
+use Rattle.kd_world.specs.World.{closed}
 use Rattle.kd_model.specs.Slices.{place, unused_number}
 use Rattle.kd_model.specs.Words.{least, some_of, those}
 use Rattle.kd_types.specs.declared.refusal.Refusal.{Refusal}

@@ -9,13 +9,13 @@ use Rattle.kd_pool.specs.Steps.{after, open_step, pool_step}
 use Rattle.kd_core.specs.declared.world.World.TheInside.{Inside}
 use Rattle.kd_core.specs.Acting.{acted, answered}
 use Rattle.kd_core.specs.Counts.{IsBelow, is_settle}
-use Rattle.kd_core.specs.Hands.{hand_freed, hand_received}
+use Rattle.kd_world.specs.Hands.{hand_freed, hand_received}
 use Rattle.kd_core.specs.Held.{IsWhole}
-use Rattle.kd_core.specs.Pendings.{Pending}
+use Rattle.kd_world.specs.Pendings.{Pending}
 use Rattle.kd_core.specs.Running.{Running, said, stepped, told_by_pool}
-use Rattle.kd_core.specs.World.{Aimed, Caller, Event, World, act_at, act_of, caller_at, callers_after, closed, desk_after, free_of, freed_answer, frees, has_published, holder_after, is_pending_at, pool_answer, pools_after, publish_of, publishes, reads, receives, says, seat_of, step, told_of, when_seated}
-use Rattle.kd_core.specs.declared.hand.Told.{Told}
-use Rattle.kd_core.specs.declared.hand.Told.TheVariants.{Peeked, Handed}
+use Rattle.kd_world.specs.World.{Aimed, Caller, Event, World, act_at, act_of, caller_at, callers_after, closed, desk_after, free_of, freed_answer, frees, has_published, holder_after, is_pending_at, pool_answer, pools_after, publish_of, publishes, reads, receives, says, seat_of, step, told_of, when_seated}
+use Rattle.kd_world.specs.declared.told.Told.{Told}
+use Rattle.kd_world.specs.declared.told.Told.TheVariants.{Peeked, Handed}
 use Rattle.kd_core.proofs.Below.{below_after, below_more}
 
 -- ---- the pools of a world

@@ -6,7 +6,7 @@ use Rattle.std.proofs.lemmas.List.Folds.{find_at}
 use Rattle.std.proofs.lemmas.List.Quantifiers.{position-Some}
 use Rattle.std.proofs.lemmas.Bool.Decides.{nat_tests}
 use Rattle.kd_model.specs.Words.{first}
-use Rattle.kd_core.specs.World.{without_first}
+use Rattle.kd_world.specs.World.{without_first}
 
 -- an element passes, and none before it
 record IsFirst {X : Type 0} (test : X → Bool) (xs : List X) (i : ℕ) (x : X) : Type 0 where

@@ -15,7 +15,7 @@ use Rattle.kd_core.specs.Counts.{IsBelow}
 use Rattle.kd_core.specs.Held.{IsHeld, IsWhole, holder_of, world_of}
 use Rattle.kd_core.specs.Placed.{HasKept, all_kept, becomes, turned}
 use Rattle.kd_core.specs.Running.{Running, may, said, stepped}
-use Rattle.kd_core.specs.World.{Caller, caller_at, end_of, leave, left_caller, says}
+use Rattle.kd_world.specs.World.{Caller, caller_at, end_of, leave, left_caller, says}
 use Rattle.kd_core.proofs.Left.{after_leaving, caller_left, ends_as, ids_by_one, leaves_held, says_left}
 use Rattle.kd_core.proofs.Seen.{held_in, inner}
 use Rattle.kd_core.proofs.Wholes.{more_below, with_steps}

@@ -11,7 +11,7 @@ use Rattle.kd_desk.specs.Step.{first_ends, next_part, parts_in}
 use Rattle.kd_core.specs.declared.holder.Holder as code
 use Rattle.kd_core.specs.Lists.{first_of}
 use Rattle.kd_core.specs.Ahead.{part_ahead}
-use Rattle.kd_core.specs.World.{World, planned, parts_planned, next_visit}
+use Rattle.kd_world.specs.World.{World, planned, parts_planned, next_visit}
 use Rattle.kd_core.specs.Held.{holder_of}
 use Rattle.kd_core.proofs.Ahead.{next_is_ahead, seat_ahead}
 

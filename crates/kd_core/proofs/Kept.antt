@@ -8,7 +8,7 @@ use Rattle.kd_desk.specs.declared.part.Out.{Out}
 use Rattle.kd_desk.specs.declared.part.Part as code
 use Rattle.kd_desk.specs.declared.part.Part.TheVariants as part
 use Rattle.kd_desk.specs.Drafts.{Draft, content_at, without_content}
-use Rattle.kd_core.specs.Pendings.{Pending}
+use Rattle.kd_world.specs.Pendings.{Pending}
 use Rattle.kd_core.specs.Placed.{IsSpent, all_kept, kept, reserved}
 
 content_here : (i : ℕ) (cs : List (Option Content)) → content_at i cs ≡ content_at 0 (drop i cs)

@@ -22,9 +22,9 @@ use Rattle.kd_desk.specs.Step.{Ended, ended, ended_by, first_ends, parts_in}
 use Rattle.kd_desk.proofs.Ending.{ends_where_it_stops}
 use Rattle.kd_core.specs.declared.holder.Holder as holder
 use Rattle.kd_core.specs.Held.{IsHeld, holder_of}
-use Rattle.kd_core.specs.Pendings.{Pending}
+use Rattle.kd_world.specs.Pendings.{Pending}
 use Rattle.kd_core.specs.Placed.{HasKept, IsSpent, all_kept, becomes, kept, reserved, turned}
-use Rattle.kd_core.specs.World.{Caller, Holder, World, act_of, caller_at, callers_after, creds_after, desk_after, desk_end, end_of, hand_after, holder_after, is_caller, kind_after, leave, left, left_caller, legal, next_visit, parts_planned, pending_made, pendings_made, pools_after, says, step, taken}
+use Rattle.kd_world.specs.World.{Caller, Holder, World, act_of, caller_at, callers_after, creds_after, desk_after, desk_end, end_of, hand_after, holder_after, is_caller, kind_after, leave, left, left_caller, legal, next_visit, parts_planned, pending_made, pendings_made, pools_after, says, step, taken}
 use Rattle.kd_core.specs.Running.{may}
 use Rattle.kd_core.proofs.Takes.{left_holds, right_holds}
 

@@ -1,4 +1,3 @@
-pub mod Tied
 pub mod Counting
 pub mod Stacks
 pub mod Ahead
@@ -14,10 +13,3 @@ pub mod Firsts
 pub mod Kept
 pub mod Left
 pub mod Gone
-pub mod Script
-mod Messages
-mod Naming
-mod Policies
-mod Broadcasts
-mod Requests
-mod Interleaved

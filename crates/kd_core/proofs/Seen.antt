@@ -6,7 +6,7 @@ use Rattle.kd_desk.specs.Send.{Part}
 use Rattle.kd_core.specs.declared.holder.Holder as code
 use Rattle.kd_core.specs.declared.world.World.TheInside.{Inside}
 use Rattle.kd_core.specs.Ahead.{part_ahead}
-use Rattle.kd_core.specs.World.{World, next_visit}
+use Rattle.kd_world.specs.World.{World, next_visit}
 use Rattle.kd_core.specs.Running.{next_seat}
 use Rattle.kd_core.specs.Held.{IsHeld, IsHeldBy, holder_of, world_of}
 use Rattle.kd_core.proofs.Holding.{seat_next}

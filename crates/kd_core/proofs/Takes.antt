@@ -14,7 +14,7 @@ use Rattle.kd_desk.specs.State.{Desk}
 use Rattle.kd_desk.specs.Plans.{Plan}
 use Rattle.kd_desk.specs.Step.{plan}
 use Rattle.kd_desk.specs.Runs.{answered, is_handover_by, is_keeper, is_not_run, runs, unsupported}
-use Rattle.kd_core.specs.World.{World, take, caller_at, names_other_bus, is_elsewhere, is_fresh, planned, is_caller, is_for_desk, legal, holder_by, holder_after, desk_after, pools_after, callers_after, act_of, step, says, taken_answer}
+use Rattle.kd_world.specs.World.{World, take, caller_at, names_other_bus, is_elsewhere, is_fresh, planned, is_caller, is_for_desk, legal, holder_by, holder_after, desk_after, pools_after, callers_after, act_of, step, says, taken_answer}
 use Rattle.kd_core.specs.Running.{may, is_run}
 
 pub right_holds : (a b : Bool) → IsTrue (a && b) → IsTrue b

@@ -29,7 +29,7 @@ use Rattle.kd_core.specs.Stack.{stack_of}
 use Rattle.kd_core.specs.Lists.{first_of}
 use Rattle.kd_core.specs.Running.{Running, is_run, may, out_of, said, stepped}
 use Rattle.kd_core.specs.Visits.{HasVisited, IsReady, IsSameHolder, IsVisited}
-use Rattle.kd_core.specs.World.{World, Holder, Aimed, aimed, closed, visit, legal, is_caller, is_part_at, next_visit, parts_planned, planned, act_of, desk_after, holder_after, pools_after, callers_after, pool_answer, says, step, told}
+use Rattle.kd_world.specs.World.{World, Holder, Aimed, aimed, closed, visit, legal, is_caller, is_part_at, next_visit, parts_planned, planned, act_of, desk_after, holder_after, pools_after, callers_after, pool_answer, says, step, told}
 use Rattle.kd_core.proofs.Ahead.{next_is_ahead, seat_with}
 use Rattle.kd_core.proofs.Seen.{held_in, inner}
 use Rattle.kd_core.proofs.Below.{below_after}

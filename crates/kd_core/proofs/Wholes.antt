@@ -17,7 +17,7 @@ use Rattle.kd_core.specs.declared.holder.Holder as code
 use Rattle.kd_core.specs.declared.world.World.TheInside.{Inside}
 use Rattle.kd_core.specs.Counts.{IsBelow}
 use Rattle.kd_core.specs.Stack.{stack_of}
-use Rattle.kd_core.specs.World.{World, take, caller_at, creds_after, planned, says}
+use Rattle.kd_world.specs.World.{World, take, caller_at, creds_after, planned, says}
 use Rattle.kd_core.specs.Running.{Running, may, said, stepped}
 use Rattle.kd_core.specs.Held.{IsHeld, IsWhole, world_of}
 use Rattle.kd_core.proofs.Counting.{weaker_below}

@@ -2,7 +2,7 @@
 use Rattle.std.specs.Prelude.{List, Option, Some, None, get_or, set}
 use Rattle.kd_pool.specs.State.{Answer, Hold, done}
 use Rattle.kd_pool.specs.Steps.{pool_step}
-use Rattle.kd_core.specs.World.{Aimed, closed}
+use Rattle.kd_world.specs.World.{Aimed, closed}
 
 -- the pools after it, where there is one
 abbrev pub acted : Option Aimed → List Hold → List Hold

@@ -1,7 +1,7 @@
 -- Lists of events: which may happen, what they change and what they are answered.
 use Rattle.std.specs.Prelude.{ℕ, ◌+◌, Bool, true, false, List, [], ◌∷◌, Option, Some, None, option_map}
 use Rattle.kd_core.specs.declared.event.Answer.{Answer}
-use Rattle.kd_core.specs.World.{World, Event, step, says}
+use Rattle.kd_world.specs.World.{World, Event, step, says}
 use Rattle.kd_core.specs.Running.{Running, may, said, stepped}
 
 -- an event that may not happen is the first, else the one behind it

@@ -8,7 +8,7 @@ use Rattle.kd_core.specs.declared.holder.Holder as code
 use Rattle.kd_core.specs.declared.world.World.TheInside.{Inside}
 use Rattle.kd_core.specs.Counts.{IsBelow}
 use Rattle.kd_core.specs.Stack.{stack_of}
-use Rattle.kd_core.specs.World.{Holder, planned, creds_after}
+use Rattle.kd_world.specs.World.{Holder, planned, creds_after}
 use Rattle.kd_core.specs.Running.{Running}
 
 abbrev pub holder_of : code.Holder → Holder

@@ -1,10 +1,6 @@
-pub mod World
-pub mod Hands
-pub mod Pendings
 pub mod Publishing
 pub mod Stack
 pub mod Counts
-pub mod Tie
 pub mod Lists
 pub mod Ahead
 pub mod Running

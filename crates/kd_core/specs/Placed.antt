@@ -12,8 +12,8 @@ use Rattle.kd_desk.specs.Outs.{answers_of}
 use Rattle.kd_desk.specs.State.{Desk}
 use Rattle.kd_desk.specs.Step.{first_ends}
 use Rattle.kd_core.specs.declared.holder.Holder as holder
-use Rattle.kd_core.specs.Pendings.{Pending}
-use Rattle.kd_core.specs.World.{Caller, closed, hand_after, kind_after}
+use Rattle.kd_world.specs.Pendings.{Pending}
+use Rattle.kd_world.specs.World.{Caller, closed, hand_after, kind_after}
 
 -- the seat of an offer that was placed, and the slice that was reserved there
 abbrev pub reserved : code.Part → Out → Option (ℕ × ℕ)

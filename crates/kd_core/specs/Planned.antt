@@ -5,7 +5,7 @@ use Rattle.kd_wire.specs.declared.command.Command.{Command}
 use Rattle.kd_desk.specs.declared.who.Who.{Who}
 use Rattle.kd_desk.specs.State.{Desk}
 use Rattle.kd_desk.specs.Drafts.{Answers, Draft}
-use Rattle.kd_core.specs.World.{planned}
+use Rattle.kd_world.specs.World.{planned}
 
 -- the code's plan is that of the world, or its refusal
 abbrev pub IsPlanned : Desk → Who → Command → Result Draft Refusal → Type 0

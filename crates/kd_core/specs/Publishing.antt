@@ -1,8 +1,15 @@
--- A publishing into an open pool of the right generation.
+-- A publishing, and what it answers.
 use Rattle.std.specs.Prelude.{ℕ, true, false}
 use Rattle.kd_pool.specs.State.{Answer, Content, Pool, gone, placed}
 use Rattle.kd_pool.specs.Steps.{filled, is_reserved_for}
+use Rattle.kd_core.specs.declared.pending.Published.{Published}
+use Rattle.kd_core.specs.declared.pending.Published.TheVariants as published
 
--- the content is queued where its slice is reserved
+-- what a publishing answers
+abbrev pub answer_of : Published → Answer
+answer_of published.Placed = placed
+answer_of published.Gone = gone
+
+-- in an open pool of the right generation the content is queued where its slice is reserved
 abbrev pub publish_step : ℕ → Content → Pool → Pool × Answer
 publish_step n c p = elim (is_reserved_for n c p) [ false ↦ (p, gone) | true ↦ (filled n c p, placed) ]

@@ -6,12 +6,12 @@ use Rattle.kd_desk.specs.declared.part.Out.TheVariants as out
 use Rattle.kd_desk.specs.Send.{Part}
 use Rattle.kd_desk.specs.Runs.{is_not_run}
 use Rattle.kd_core.specs.Lists.{first_of}
-use Rattle.kd_core.specs.Pendings.{Pending}
+use Rattle.kd_world.specs.Pendings.{Pending}
 use Rattle.kd_core.specs.declared.event.Event as code
 use Rattle.kd_core.specs.declared.event.Event.TheVariants as event
 use Rattle.kd_core.specs.declared.event.Answer.{Answer}
 use Rattle.kd_core.specs.declared.event.Answer.TheVariants as answer
-use Rattle.kd_core.specs.World.{World, Event, Says, take, visit, leave, publishes, receives, reads, frees, taken, turned_away, left, pool_says, caller_at, legal, next_visit, step}
+use Rattle.kd_world.specs.World.{World, Event, Says, take, visit, leave, publishes, receives, reads, frees, taken, turned_away, left, pool_says, caller_at, legal, next_visit, step}
 
 -- a world, and how many events it has run
 pub record Running : Type 0 where

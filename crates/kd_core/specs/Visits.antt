@@ -9,7 +9,7 @@ use Rattle.kd_desk.specs.Drafts.{IsVisitable, part_with, seat_in}
 use Rattle.kd_desk.specs.Outs.{answer_of}
 use Rattle.kd_core.specs.declared.holder.Holder as holder
 use Rattle.kd_core.specs.Stack.{stack_of}
-use Rattle.kd_core.specs.World.{closed}
+use Rattle.kd_world.specs.World.{closed}
 
 -- a part is left, and the pools that the parts open are made
 pub record IsReady (h : holder.Holder) : Type 0 where

@@ -2,7 +2,7 @@
 
 ghost use Rattle.std.specs.Prelude.{◌≡◌, IsTrue};
 ghost use Rattle.kd_core.specs.Running.{is_run, next_publish, next_seat};
-ghost use Rattle.kd_core.specs.World.{caller_at, is_caller, take};
+ghost use Rattle.kd_world.specs.World.{caller_at, is_caller, take};
 
 use crate::caller::Caller;
 use crate::world::World;

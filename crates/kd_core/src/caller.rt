@@ -1,8 +1,8 @@
 //! A caller of a world.
 
 ghost use Rattle.std.specs.Prelude.{◌≡◌, IfOk};
-ghost use Rattle.kd_core.specs.World as world;
-ghost use Rattle.kd_core.specs.World.{seat_of, stranger};
+ghost use Rattle.kd_world.specs.World as world;
+ghost use Rattle.kd_world.specs.World.{seat_of, stranger};
 
 use crate::hand::Hand;
 use crate::pending::Pending;

@@ -2,7 +2,7 @@
 
 ghost use Rattle.std.specs.Prelude.{◌≡◌, ◌<◌, ◌^◌, IfOk, IsTrue};
 ghost use Rattle.kd_core.specs.Running.{may, said, stepped};
-ghost use Rattle.kd_core.specs.World.{frees, publishes, reads, receives, says};
+ghost use Rattle.kd_world.specs.World.{frees, publishes, reads, receives, says};
 
 use crate::event::Answer;
 use crate::world::World;
@@ -12,7 +12,7 @@ use std::alloc::{AllocError, Global};
 
 impl World {
     /// Publishes the caller's oldest message for the seat and number.
-    #[tactic(auto, unfolding(crate::specs::Running::may, crate::specs::World::legal))]
+    #[tactic(auto, unfolding(crate::specs::Running::may, kd_world::specs::World::legal))]
     pub(crate) fn publish(&mut self, caller: u64, seat: Seat, number: u32) -> Answer
         requires may { IsTrue (may self.old.world (publishes caller seat number)) }
         requires steps { self.old.steps < 2 ^ 54 }
@@ -24,7 +24,7 @@ impl World {
     }
 
     /// Receives the next message of the caller's pool.
-    #[tactic(auto, unfolding(crate::specs::Running::may, crate::specs::World::legal))]
+    #[tactic(auto, unfolding(crate::specs::Running::may, kd_world::specs::World::legal))]
     pub(crate) fn receive(&mut self, caller: u64, mode: RecvMode) -> Answer
         requires may { IsTrue (may self.old.world (receives caller mode)) }
         requires steps { self.old.steps < 2 ^ 54 }
@@ -36,7 +36,7 @@ impl World {
     }
 
     /// Reads a slice of the caller's pool, or the share of one.
-    #[tactic(auto, unfolding(crate::specs::Running::may, crate::specs::World::legal))]
+    #[tactic(auto, unfolding(crate::specs::Running::may, kd_world::specs::World::legal))]
     pub(crate) fn read(
         &self,
         alloc: Global,
@@ -51,7 +51,7 @@ impl World {
     }
 
     /// Frees a slice that the caller received.
-    #[tactic(auto, unfolding(crate::specs::Running::may, crate::specs::World::legal))]
+    #[tactic(auto, unfolding(crate::specs::Running::may, kd_world::specs::World::legal))]
     pub(crate) fn free(&mut self, caller: u64, number: u32) -> Answer
         requires may { IsTrue (may self.old.world (frees caller number)) }
         requires steps { self.old.steps < 2 ^ 54 }

@@ -1,21 +1,13 @@
 //! What a caller was told of slices.
 
 ghost use Rattle.std.specs.Prelude.{◌≡◌, IfOk, List, None, Option, get_or, length};
-ghost use Rattle.kd_core.specs.Hands.{empty_hand, with_told};
-ghost use Rattle.kd_core.specs.declared.hand.Told as code;
+ghost use Rattle.kd_world.specs.Hands.{empty_hand, with_told};
+ghost use Rattle.kd_world.specs.declared.told.Told as code;
 
 use kd_model::SLICES;
+use kd_world::Told;
 use std::alloc::{AllocError, Global};
 use std::marker::Model;
-
-/// What a caller knows of a slice number of its pool.
-#[derive(Clone, Copy, Debug, PartialEq, Eq)]
-pub enum Told {
-    /// It has looked at the message, which stays queued.
-    Peeked,
-    /// It has received the message, and has to free its slice.
-    Handed,
-}
 
 /// What a caller was told of each number of its pool.
 #[derive(Debug, Drop)]

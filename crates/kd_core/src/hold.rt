@@ -9,18 +9,20 @@ ghost use Rattle.kd_desk.specs.Drafts.{IsLength, IsVisitable, part_with};
 ghost use Rattle.kd_desk.specs.Outs.{answer_of};
 ghost use Rattle.kd_desk.specs.declared.part.Part as code;
 ghost use Rattle.kd_core.specs.Counts.{IsBelow};
-ghost use Rattle.kd_core.specs.Hands.{hand_received};
-ghost use Rattle.kd_core.specs.Pendings as pendings;
+ghost use Rattle.kd_world.specs.Agreed.{IsSoundHold, used_in};
+ghost use Rattle.kd_world.specs.Hands.{hand_received};
+ghost use Rattle.kd_core.specs.Publishing as publishing;
 ghost use Rattle.kd_core.specs.Stack.{stack_of};
-ghost use Rattle.kd_core.specs.World.{closed};
+ghost use Rattle.kd_world.specs.World.{closed};
 
-use crate::hand::{Hand, Told};
+use crate::hand::Hand;
 use crate::made::Made;
 use crate::opened;
 use crate::pending::{Pending, Published};
 use kd_desk::{Out, Part};
 use kd_pool::{Got, Pool, RecvMode};
 use kd_types::{ConnId, Refusal, SliceNo};
+use kd_world::Told;
 use std::alloc::Global;
 use std::marker::Model;
 
@@ -53,6 +55,17 @@ impl Hold {
         ensures { result ≡ self.now.generation }
     {
         self.generation
+    }
+
+    /// How many bytes all slices of its pool take, freed ones that aren't swept included; 0 where it is closed. An open pool is sound.
+    pub fn used(&self) -> u32
+        ensures sum { result ≡ used_in self.now }
+        ensures sound { IsSoundHold self.now }
+    {
+        match &self.pool {
+            None => 0,
+            Some(pool) => pool.used(),
+        }
     }
 
     /// Does what a part of a plan asks for; so far nothing is drained.
@@ -152,7 +165,7 @@ impl Hold {
         requires plain { pending.content.shared ≡ None }
         requires counts { IsBelow (2 ^ 63 - 1) self.old }
         ensures after { self.new ≡ after self.old (publish pending.generation pending.number pending.content) }
-        ensures answer { pendings.answer_of result ≡ answer self.old (publish pending.generation pending.number pending.content) }
+        ensures answer { publishing.answer_of result ≡ answer self.old (publish pending.generation pending.number pending.content) }
     {
         if pending.generation != self.generation {
             return Published::Gone;

@@ -4,7 +4,7 @@ ghost use Rattle.std.specs.Prelude.{◌≡◌, ◌<◌, ◌≤◌, ◌+◌, ◌�
 ghost use Rattle.kd_desk.specs.Drafts.{content_at, nothing, without_content};
 ghost use Rattle.kd_desk.specs.declared.part.Part as code;
 ghost use Rattle.kd_core.specs.Placed.{IsSpent, all_kept, kept, reserved};
-ghost use Rattle.kd_core.specs.World.{closed};
+ghost use Rattle.kd_world.specs.World.{closed};
 
 use crate::caller::Caller;
 use crate::hold::Hold;

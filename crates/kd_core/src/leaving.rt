@@ -6,7 +6,7 @@ ghost use Rattle.kd_desk.specs.Outs.{ended_on};
 ghost use Rattle.kd_core.specs.declared.holder.Holder as code;
 ghost use Rattle.kd_core.specs.Placed.{HasKept, all_kept, becomes, turned};
 ghost use Rattle.kd_core.specs.Running.{may, said, stepped};
-ghost use Rattle.kd_core.specs.World.{hand_after, kind_after, leave, says};
+ghost use Rattle.kd_world.specs.World.{hand_after, kind_after, leave, says};
 
 use crate::caller::Caller;
 use crate::event::Answer;
@@ -108,7 +108,7 @@ fn end(holder: Holder, desk: &mut Desk, caller: &mut Caller) -> Reply
 
 impl World {
     /// The holder leaves the desk: its command is ended by what the pools answered, and what it placed is pending.
-    #[tactic(auto, unfolding(crate::specs::Running::may, crate::specs::World::legal))]
+    #[tactic(auto, unfolding(crate::specs::Running::may, kd_world::specs::World::legal))]
     pub(crate) fn leave(&mut self, caller: u64) -> Result<Answer, AllocError>
         requires may { IsTrue (may self.old.world (leave caller)) }
         requires steps { self.old.steps < 2 ^ 54 }

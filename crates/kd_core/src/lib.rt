@@ -7,9 +7,9 @@
 //! ```
 //!
 //! A caller takes the desk with a command, visits the pools of the plan's parts, and leaves the desk; then it publishes what it
-//! offered. Receives, reads and frees go by the caller's own pool and hand, whoever holds the desk. `specs/` says which events are
-//! legal, and what each changes and answers; `laws` has what is proved of every list of them. A [`World`] runs them: one by one,
-//! or a list with [`run_events`]. Each event is a file of its own where it asks for more than a call at a pool.
+//! offered. Receives, reads and frees go by the caller's own pool and hand, whoever holds the desk. `kd_world` says which events are
+//! legal, what each changes and answers, and what holds of every list of them. A [`World`] runs them: one by one, or a list with
+//! [`run_events`]. Each event is a file of its own where it asks for more than a call at a pool.
 #![tactic(auto)]
 
 mod asking;
@@ -36,9 +36,10 @@ mod world;
 
 pub use caller::Caller;
 pub use event::{Answer, Event};
-pub use hand::{Hand, Told};
+pub use hand::Hand;
 pub use hold::Hold;
-pub use laws::{addressed_is_offered, counts_by_one, offered_so_far};
+pub use kd_world::Told;
+pub use laws::counts_by_one;
 pub use made::Made;
 pub use pending::{Pending, Published};
 pub use stepping::{RunError, run_events};

@@ -3,7 +3,7 @@
 ghost use Rattle.std.specs.Prelude.{◌≡◌, ◌≢◌, None, Some, is_some};
 ghost use Rattle.std.specs.List.{position};
 ghost use Rattle.kd_model.specs.Words.{first};
-ghost use Rattle.kd_core.specs.World.{is_pending_at, without_first};
+ghost use Rattle.kd_world.specs.World.{is_pending_at, without_first};
 
 use crate::pending::Pending;
 use kd_types::Seat;

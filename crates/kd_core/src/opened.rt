@@ -5,7 +5,7 @@ ghost use Rattle.kd_pool.specs.Steps.{offer_step, post_step, without_handed};
 ghost use Rattle.kd_desk.specs.Drafts.{IsLength};
 ghost use Rattle.kd_desk.specs.Outs.{answer_of};
 ghost use Rattle.kd_core.specs.Counts.{IsPoolBelow};
-ghost use Rattle.kd_core.specs.Pendings as pendings;
+ghost use Rattle.kd_core.specs.Publishing as publishing;
 ghost use Rattle.kd_core.specs.Publishing.{publish_step};
 
 use crate::pending::Published;
@@ -50,7 +50,7 @@ pub(crate) fn publish(pool: &mut Pool, number: SliceNo, content: &Content) -> Pu
     requires plain { content.now.shared ≡ None }
     requires counts { IsPoolBelow (2 ^ 63 - 1) pool.old }
     ensures after { pool.new ≡ (publish_step number content.now pool.old).0 }
-    ensures answer { pendings.answer_of result ≡ (publish_step number content.now pool.old).1 }
+    ensures answer { publishing.answer_of result ≡ (publish_step number content.now pool.old).1 }
 {
     let prefix = content.prefix.bytes();
     let payload = content.payload.as_slice();

@@ -1,6 +1,6 @@
 //! An offer that was placed, until it is published.
 
-ghost use Rattle.kd_core.specs.Pendings as pendings;
+ghost use Rattle.kd_world.specs.Pendings as pendings;
 
 use kd_desk::Content;
 use kd_types::{Seat, SliceNo};

@@ -10,10 +10,10 @@ ghost use Rattle.kd_desk.specs.Drafts.{IsVisitable, part_with, seat_in};
 ghost use Rattle.kd_desk.specs.Outs.{answer_of};
 ghost use Rattle.kd_desk.specs.declared.part.Part as code;
 ghost use Rattle.kd_core.specs.Counts.{IsBelow};
-ghost use Rattle.kd_core.specs.Hands.{hand_received};
-ghost use Rattle.kd_core.specs.Pendings as pendings;
+ghost use Rattle.kd_world.specs.Hands.{hand_received};
+ghost use Rattle.kd_core.specs.Publishing as publishing;
 ghost use Rattle.kd_core.specs.Stack.{stack_of};
-ghost use Rattle.kd_core.specs.World.{closed};
+ghost use Rattle.kd_world.specs.World.{closed};
 
 use crate::hand::Hand;
 use crate::hold::Hold;
@@ -43,7 +43,7 @@ pub(crate) fn visit(pools: &mut Vec<Hold>, part: &Part, made: &mut Made) -> Out
 pub(crate) fn publish(pools: &mut Vec<Hold>, pending: Pending) -> Published
     requires counts { AllByRecursion (IsBelow (2 ^ 63 - 1)) pools.old.items }
     ensures after { pools.new.items ≡ set pools.old.items pending.seat (after (get_or pools.old.items pending.seat closed) (publish pending.generation pending.number pending.content)) }
-    ensures answer { pendings.answer_of result ≡ answer (get_or pools.old.items pending.seat closed) (publish pending.generation pending.number pending.content) }
+    ensures answer { publishing.answer_of result ≡ answer (get_or pools.old.items pending.seat closed) (publish pending.generation pending.number pending.content) }
 {
     match pools.get_mut(pending.seat.0 as usize) {
         Some(hold) => hold.publish(pending),

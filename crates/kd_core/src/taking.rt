@@ -3,7 +3,7 @@
 ghost use Rattle.std.specs.Prelude.{◌≡◌, ◌<◌, ◌^◌, IfOk, IsTrue, OnErr, OnOk};
 ghost use Rattle.kd_core.specs.Planned.{IsPlanned};
 ghost use Rattle.kd_core.specs.Running.{may, said, stepped};
-ghost use Rattle.kd_core.specs.World.{caller_at, creds_after, says, take};
+ghost use Rattle.kd_world.specs.World.{caller_at, creds_after, says, take};
 
 use crate::event::Answer;
 use crate::holder::Holder;

@@ -6,18 +6,19 @@ ghost use Rattle.kd_model.specs.Words.{first};
 ghost use Rattle.kd_pool.specs.State.{read, receive};
 ghost use Rattle.kd_core.specs.Acting.{acted, answered};
 ghost use Rattle.kd_core.specs.Counts.{IsBelow};
-ghost use Rattle.kd_core.specs.Hands.{hand_freed, hand_received};
+ghost use Rattle.kd_world.specs.Hands.{hand_freed, hand_received};
 ghost use Rattle.kd_core.specs.Running.{told_by_pool};
-ghost use Rattle.kd_core.specs.World.{act_at, free_of, freed_answer, has_published, is_pending_at, publish_of, seat_of, told_of, when_seated};
+ghost use Rattle.kd_world.specs.World.{act_at, free_of, freed_answer, has_published, is_pending_at, publish_of, seat_of, told_of, when_seated};
 
 use crate::caller::Caller;
 use crate::event::Answer;
-use crate::hand::{Hand, Told};
+use crate::hand::Hand;
 use crate::hold::Hold;
 use crate::pending::Published;
 use crate::{oldest, pools};
 use kd_pool::RecvMode;
 use kd_types::{Blob, Refusal, Seat};
+use kd_world::Told;
 use std::alloc::{AllocError, Global};
 
 /// Takes a received number out of the hand, and tells what it was told of it.

@@ -7,7 +7,7 @@ ghost use Rattle.kd_core.specs.declared.holder.Holder as code;
 ghost use Rattle.kd_core.specs.Counts.{IsBelow};
 ghost use Rattle.kd_core.specs.Visits.{HasVisited, IsReady, IsSameHolder, IsVisited};
 ghost use Rattle.kd_core.specs.Running.{may, said, stepped};
-ghost use Rattle.kd_core.specs.World.{says, visit};
+ghost use Rattle.kd_world.specs.World.{says, visit};
 
 use crate::event::Answer;
 use crate::hold::Hold;

@@ -1,7 +1,9 @@
 //! A world: one desk, its holder, 64 pools and 64 callers.
 
-ghost use Rattle.std.specs.Prelude.{◌≡◌, IfOk, replicate};
-ghost use Rattle.kd_core.specs.World.{closed, new_world, stranger};
+ghost use Rattle.std.specs.Prelude.{◌≡◌, IfOk, replicate, sum_by};
+ghost use Rattle.std.specs.List.{AllByRecursion};
+ghost use Rattle.kd_world.specs.Agreed.{IsReached, IsSoundHold, used_in};
+ghost use Rattle.kd_world.specs.World.{closed, new_world, stranger};
 
 use crate::caller::Caller;
 use crate::hold::Hold;
@@ -60,9 +62,10 @@ fn strangers(alloc: Global) -> Result<Vec<Caller>, AllocError>
 impl World {
     /// The world of a new bus, by the user who makes it and the parameter of its filters: 64 callers of whom nothing is known, and no
     /// connection.
-    #[tactic(auto, unfolding(crate::specs::World::new_world, kd_desk::specs::State::opening))]
+    #[tactic(auto, unfolding(kd_world::specs::World::new_world, kd_desk::specs::State::opening))]
     pub fn make(alloc: Global, creator: u32, param: Param) -> Result<World, AllocError>
-        ensures { IfOk result (λ w. w ≡ record { world = new_world creator param.size param.hashes; steps = 0 }) }
+        ensures opening { IfOk result (λ w. w ≡ record { world = new_world creator param.size param.hashes; steps = 0 }) }
+        ensures reached { IfOk result (λ w. IsReached w.world) }
     {
         Ok(World {
             desk: Desk::make(alloc, creator, param)?,
@@ -78,5 +81,17 @@ impl World {
         ensures { result ≡ self.now.steps }
     {
         self.steps
+    }
+
+    /// How many bytes all slices of all pools take, freed ones that aren't swept included. Every pool is sound.
+    pub fn used(&self) -> u64
+        ensures sum { result ≡ sum_by used_in self.now.world.pools }
+        ensures sound { AllByRecursion IsSoundHold self.now.world.pools }
+    {
+        let mut sum = 0;
+        'pools: for pool in &self.pools {
+            sum += u64::from(pool.used());
+        }
+        sum
     }
 }

@@ -2,7 +2,7 @@
 use Rattle.std.proofs.Common.{◌≡◌, ℕ, ◌-◌, Bool, length, Option, Some, None, refl, ◌∙◌}
 use Rattle.std.proofs.lemmas.List.{length-set}
 use Rattle.kd_pool.specs.declared.receive.RecvMode.{RecvMode}
-use Rattle.kd_core.specs.World.{World, Event, Holder, take, visit, leave, publishes, receives, reads, frees, new_world, callers_after, holder_after, step}
+use Rattle.kd_world.specs.World.{World, Event, Holder, take, visit, leave, publishes, receives, reads, frees, new_world, callers_after, holder_after, step}
 use Rattle.kd_replay.specs.Turns.{IsReady, opening}
 
 left_callers : (w : World) (n : ℕ) (o : Option Holder) → o ≡ w.holder → length (callers_after w (leave n)) ≡ length w.callers

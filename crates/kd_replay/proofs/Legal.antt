@@ -14,7 +14,7 @@ use Rattle.kd_wire.proofs.Formed.{judged}
 use Rattle.kd_wire.proofs.ItemLaws.{option_cases}
 use Rattle.kd_desk.specs.Plans.{Plan}
 use Rattle.kd_core.specs.declared.event.Answer.TheVariants as answer
-use Rattle.kd_core.specs.World.{World, Event, take, visit, leave, publishes, receives, reads, frees, all_legal, holds_desk, is_caller, is_for_desk, legal, runs, step}
+use Rattle.kd_world.specs.World.{World, Event, take, visit, leave, publishes, receives, reads, frees, all_legal, holds_desk, is_caller, is_for_desk, legal, runs, step}
 use Rattle.kd_core.specs.Running.{is_run, may, next_publish, next_seat}
 use Rattle.kd_replay.specs.Turns.{Turn, IsReady, at_desk, by_desk, left, mode_of, opening, part_count, pending_count, published, publishings, refused, slice_number, turn, visited, visits}
 use Rattle.kd_replay.specs.Transcript.{Answered, IsReached, IsTurn}

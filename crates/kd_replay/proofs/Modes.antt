@@ -14,7 +14,7 @@ use Rattle.kd_wire.specs.Reading.{stand}
 use Rattle.kd_wire.specs.Refusals.{flaw_of}
 use Rattle.kd_wire.specs.WellFormed.{is_well_formed}
 use Rattle.kd_wire.proofs.Parts.{both, flawless}
-use Rattle.kd_core.specs.World.{World, receives, reads, frees, is_caller, legal}
+use Rattle.kd_world.specs.World.{World, receives, reads, frees, is_caller, legal}
 use Rattle.kd_core.specs.Running.{may}
 use Rattle.kd_replay.specs.Turns.{IsReady, mode_of}
 use Rattle.kd_replay.proofs.Publishes.{nobody}

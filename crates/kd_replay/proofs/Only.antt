@@ -7,7 +7,7 @@ use Rattle.kd_wire.specs.declared.port.Port.TheVariants.{Replay}
 use Rattle.kd_wire.specs.Ports.{admits}
 use Rattle.kd_wire.proofs.Parts.{both}
 use Rattle.kd_wire.proofs.ReadAgain.{one_value}
-use Rattle.kd_core.specs.World.{World}
+use Rattle.kd_world.specs.World.{World}
 use Rattle.kd_replay.specs.Turns.{Turn, opening, refused, turn}
 use Rattle.kd_replay.specs.Transcript.{Answered, IsRefused, IsRun, IsTranscript, IsTurn, reply_bytes}
 

@@ -6,8 +6,8 @@ use Rattle.std.proofs.lemmas.Bool.{leb-true}
 use Rattle.kd_model.specs.Words.{first}
 use Rattle.kd_wire.proofs.Parts.{both}
 use Rattle.kd_core.specs.Lists.{first_of}
-use Rattle.kd_core.specs.Pendings.{Pending}
-use Rattle.kd_core.specs.World.{World, Caller, publishes, callers_after, caller_at, has_published, holds_desk, is_caller, is_pending_at, legal, step, stranger, with_caller, without_first}
+use Rattle.kd_world.specs.Pendings.{Pending}
+use Rattle.kd_world.specs.World.{World, Caller, publishes, callers_after, caller_at, has_published, holds_desk, is_caller, is_pending_at, legal, step, stranger, with_caller, without_first}
 use Rattle.kd_core.specs.Running.{may, next_publish}
 use Rattle.kd_replay.specs.Turns.{publishings, pending_count, published, IsReady}
 use Rattle.kd_replay.proofs.Holding.{ready_behind_publish}

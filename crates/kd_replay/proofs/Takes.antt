@@ -7,7 +7,7 @@ use Rattle.kd_wire.specs.declared.reply.Reply.TheVariants as reply
 use Rattle.kd_wire.specs.WellFormed.{is_well_formed}
 use Rattle.kd_desk.specs.Plans.{Plan}
 use Rattle.kd_core.specs.declared.event.Answer.TheVariants as answer
-use Rattle.kd_core.specs.World.{World, Holder, take, caller_at, planned, taken_answer, holder_by, holder_after, holds_desk, is_caller, is_for_desk, legal, says, step}
+use Rattle.kd_world.specs.World.{World, Holder, take, caller_at, planned, taken_answer, holder_by, holder_after, holds_desk, is_caller, is_for_desk, legal, says, step}
 use Rattle.kd_core.specs.Running.{may, said, is_run}
 use Rattle.kd_replay.specs.Turns.{Turn, IsReady, by_desk, alone, left, reply_of, visited}
 use Rattle.kd_replay.proofs.Holding.{callers_stay}

@@ -6,7 +6,7 @@ use Rattle.kd_pool.specs.State.{Answer, Hold, Image}
 use Rattle.kd_desk.specs.State.{Desk}
 use Rattle.kd_desk.specs.Send.{Part}
 use Rattle.kd_desk.specs.Step.{first_ends, images_in, next_part}
-use Rattle.kd_core.specs.World.{World, Holder, Caller, visit, leave, parts_held, next_visit, holder_after, desk_after, pool_answer, holds_desk, is_caller, is_part_at, legal, step}
+use Rattle.kd_world.specs.World.{World, Holder, Caller, visit, leave, parts_held, next_visit, holder_after, desk_after, pool_answer, holds_desk, is_caller, is_part_at, legal, step}
 use Rattle.kd_core.specs.Running.{may, next_seat}
 use Rattle.kd_replay.specs.Turns.{visits, part_count, visited}
 use Rattle.kd_replay.proofs.Holding.{callers_stay}

@@ -8,7 +8,7 @@ use Rattle.std.specs.Prelude.{◌==◌}
 use Rattle.std.proofs.lemmas.Grind.{flat_map-append}
 use Rattle.std.proofs.Math.Seq.{take-append-add}
 use Rattle.kd_outside.proofs.Known.{appends_more, appends_nothing}
-use Rattle.kd_core.specs.World.{World}
+use Rattle.kd_world.specs.World.{World}
 use Rattle.kd_replay.specs.Turns.{Turn, opening}
 use Rattle.kd_replay.specs.Frames.{IsFrame, IsCut, joined}
 use Rattle.kd_replay.specs.Transcript.{IsTurn, reply_bytes, Answered, WritesFront}

@@ -10,7 +10,7 @@ use Rattle.kd_wire.specs.declared.reply.Reply.{Reply}
 use Rattle.kd_wire.specs.Frames.{command_word, caller_word}
 use Rattle.kd_wire.specs.Refusals.{refusal_of}
 use Rattle.kd_wire.specs.Replies.{reply_frame}
-use Rattle.kd_core.specs.World.{World, Event, all_legal, runs}
+use Rattle.kd_world.specs.World.{World, Event, all_legal, runs}
 use Rattle.kd_replay.specs.Turns.{Turn, opening, refused, turn}
 use Rattle.kd_replay.specs.Frames.{HasNoFrame, IsCut, IsRead, joined}
 

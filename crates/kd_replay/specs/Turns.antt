@@ -13,7 +13,7 @@ use Rattle.kd_wire.specs.Opcodes.{number_of}
 use Rattle.kd_pool.specs.declared.receive.RecvMode.{RecvMode}
 use Rattle.kd_core.specs.declared.event.Answer.{Answer}
 use Rattle.kd_core.specs.declared.event.Answer.TheVariants as answer
-use Rattle.kd_core.specs.World.{World, Event, take, visit, leave, publishes, receives, reads, frees, new_world, caller_at, parts_held, step, says}
+use Rattle.kd_world.specs.World.{World, Event, take, visit, leave, publishes, receives, reads, frees, new_world, caller_at, parts_held, step, says}
 use Rattle.kd_core.specs.Running.{said, next_seat, next_publish, is_run}
 
 -- the bus of a replay: made by the user 1000, with filters of 64 bytes and 8 hashes

@@ -1,7 +1,7 @@
 //! What holds of all frames. Nothing is run here; each function's contract is a law.
 
 ghost use Rattle.std.specs.Prelude.{◌≡◌, ℕ, List};
-ghost use Rattle.kd_core.specs.World.{World};
+ghost use Rattle.kd_world.specs.World.{World};
 ghost use Rattle.kd_replay.specs.Turns.{Turn, opening};
 ghost use Rattle.kd_replay.specs.Transcript.{Answered, IsReached, IsTranscript, IsTurn};
 

@@ -5,7 +5,7 @@ ghost use Rattle.kd_wire.specs.Commands.{opcode_in};
 ghost use Rattle.kd_wire.specs.Ports.{runs};
 ghost use Rattle.kd_wire.specs.WellFormed.{is_well_formed};
 ghost use Rattle.kd_wire.specs.declared.port.Port.TheVariants.{Replay};
-ghost use Rattle.kd_core.specs.World.{holds_desk, is_caller, is_for_desk, publishes, says, step, take};
+ghost use Rattle.kd_world.specs.World.{holds_desk, is_caller, is_for_desk, publishes, says, step, take};
 ghost use Rattle.kd_core.specs.Running.{event_of, may, next_seat, said};
 ghost use Rattle.kd_replay.specs.Turns.{by_desk, at_desk, mode_of, published, reply_of, slice_number, turn, visited, IsReady};
 

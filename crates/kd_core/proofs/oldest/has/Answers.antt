@@ -1,7 +1,7 @@
 -- There is one where it has a place.
 use Rattle.std.proofs.Common.{ap, ◌∙◌}
 use Rattle.std.specs.Prelude.{is_some}
-use Rattle.kd_core.specs.World.{is_pending_at}
+use Rattle.kd_world.specs.World.{is_pending_at}
 use Rattle.kd_core.proofs.Firsts.{is_there}
 use Rattle.kd_core.proofs.oldest.has.Goals as goal
 

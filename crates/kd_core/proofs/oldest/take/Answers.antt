@@ -1,7 +1,7 @@
 -- The one at the place is the first, and what is left are the others.
 use Rattle.std.proofs.Common.{ap, sym, ◌∙◌}
 use Rattle.std.specs.List.{position}
-use Rattle.kd_core.specs.World.{is_pending_at}
+use Rattle.kd_world.specs.World.{is_pending_at}
 use Rattle.kd_core.proofs.Firsts.{first_at, none_there, without_at}
 use Rattle.kd_core.proofs.oldest.take.Goals as goal
 

@@ -2,10 +2,12 @@ use Rattle.std.proofs.Common.{rules, arith, ◌≡◌, ◌<◌, ◌≤◌, ◌+�
 use Rattle.std.specs.Prelude.{IsNone, is_ok, if◌then◌else◌}
 use Rattle.std.proofs.lemmas.List.{length-map, map-append}
 use Rattle.std.proofs.lemmas.List.{nil_from_length}
-use Rattle.kd_core.specs.World.{says}
+use Rattle.kd_world.specs.World.{says}
 use Rattle.kd_core.specs.Running.{Running, event_of, may, said, stepped}
 use Rattle.kd_core.specs.Along.{first_barred, ran, said_along}
-use Rattle.kd_core.proofs.Alongs.{barred_there, legal_more, length_said, map_both, offered_along, ran_more, said_more, steps_along, taken_before}
+use Rattle.kd_world.proofs.Reached.{hands_always_agree}
+use Rattle.kd_world.specs.Agreed.{HandsAgree, IsReached}
+use Rattle.kd_core.proofs.Alongs.{barred_there, held_along, legal_more, length_said, map_both, offered_along, ran_more, reached_along, said_more, steps_along, taken_before}
 use Rattle.kd_core.proofs.stepping.run_events.Goals as goal
 
 pub returns-in_default-clause-memory : goal.returns-in_default-clause-memory
@@ -98,3 +100,30 @@ returns-clause-offered c = λ creator size hashes seat e n.
     let all : c.events.yielded ≡ c.args.events.items = sym (append-nil c.events.yielded) ∙ ap (c.events.yielded ++◌) (sym none) ∙ i.5 in
     offered_along creator size hashes seat r (map event_of c.args.events.items) e (ap (λ l. first_barred r.world (map event_of l)) (sym all) ∙ i.2)
     (subst (λ (x : Running). IsNone x.world.holder) (i.3 ∙ ap (λ l. ran r (map event_of l)) all) n)
+
+pub returns-in_default-clause-hands : goal.returns-in_default-clause-hands
+returns-in_default-clause-hands c = λ f. (f, hands_always_agree c.args.world.now.world f)
+
+pub returns-then-not-may-clause-hands : goal.returns-then-not-may-clause-hands
+returns-then-not-may-clause-hands c = λ f.
+    let i = c.events.invariant in
+    subst (λ (x : Running). IsReached x.world × HandsAgree x.world) (sym i.3) (reached_along c.args.world.now (map event_of c.events.yielded) i.2 f)
+
+pub returns-in_default-step-clause-hands : goal.returns-in_default-step-clause-hands
+returns-in_default-step-clause-hands c = λ f.
+    let i = c.events.invariant in
+    subst (λ (x : Running). IsReached x.world × HandsAgree x.world) (sym (c.in_default-step.ensures.err ∙ i.3))
+    (reached_along c.args.world.now (map event_of c.events.yielded) i.2 f)
+
+pub returns-clause-hands : goal.returns-clause-hands
+returns-clause-hands c = λ f.
+    let i = c.events.invariant in
+    subst (λ (x : Running). IsReached x.world × HandsAgree x.world) (sym i.3) (reached_along c.args.world.now (map event_of c.events.yielded) i.2 f)
+
+pub returns-clause-held : goal.returns-clause-held
+returns-clause-held c = λ creator size hashes seat e.
+    let r : Running = c.args.world.now in
+    let i = c.events.invariant in
+    let none : c.events.event-iterator.rest.items ≡ [] = nil_from_length c.events.event-iterator.rest.items (sym c.events.event-iterator.rest.ok.0 ∙ c.in-None.ensures.steps.0) in
+    let all : c.events.yielded ≡ c.args.events.items = sym (append-nil c.events.yielded) ∙ ap (c.events.yielded ++◌) (sym none) ∙ i.5 in
+    held_along creator size hashes seat r (map event_of c.args.events.items) e (ap (λ l. first_barred r.world (map event_of l)) (sym all) ∙ i.2)

@@ -1,5 +1,5 @@
 use Rattle.std.proofs.Common.{◌≡◌, replicate}
-use Rattle.kd_core.specs.World.{closed}
+use Rattle.kd_world.specs.World.{closed}
 use Rattle.kd_core.proofs.world.closed_pools.Given as goal
 
 abbrev pub invariant-seats : goal.invariant-seats

@@ -6,4 +6,4 @@ use Rattle.kd_replay.proofs.Holding.{opens_ready}
 use Rattle.kd_replay.proofs.replay.open.Goals as goal
 
 pub returns-clause-ready : goal.returns-clause-ready
-returns-clause-ready c = of_answer c.make.result (λ w e. subst (λ (r : Running). IsReady r.world) (sym e) opens_ready) c.make.ensures
+returns-clause-ready c = of_answer c.make.result (λ w e. subst (λ (r : Running). IsReady r.world) (sym e) opens_ready) c.make.ensures.opening

@@ -1,6 +1,6 @@
 use Rattle.std.proofs.Common.{◌≡◌, true, sym, subst}
 use Rattle.kd_pool.specs.declared.receive.RecvMode.{RecvMode}
-use Rattle.kd_core.specs.World.{receives}
+use Rattle.kd_world.specs.World.{receives}
 use Rattle.kd_core.specs.Running.{may}
 use Rattle.kd_replay.specs.Turns.{IsReady}
 use Rattle.kd_replay.proofs.Holding.{ready_behind_receive, ready_behind_read, ready_behind_free}

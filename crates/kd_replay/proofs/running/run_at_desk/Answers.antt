@@ -1,5 +1,5 @@
 use Rattle.std.proofs.Common.{◌≡◌, true, length, ◌∙◌, sym, ap, subst}
-use Rattle.kd_core.specs.World.{World, holds_desk, leave, step, take}
+use Rattle.kd_world.specs.World.{World, holds_desk, leave, step, take}
 use Rattle.kd_replay.specs.Turns.{Turn, IsReady, published, reply_of, reply_to, visited}
 use Rattle.kd_replay.proofs.Holding.{callers_stay, free_behind_leave}
 use Rattle.kd_replay.proofs.Takes.{turned_away, taken}

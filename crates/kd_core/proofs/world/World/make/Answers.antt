@@ -1,6 +1,9 @@
-use Rattle.std.proofs.Common.{arith, length, ap, sym, subst}
+use Rattle.std.proofs.Common.{arith, length, ap, sym, subst, None}
 use Rattle.std.specs.List.{AllByRecursion}
 use Rattle.kd_core.specs.Counts.{IsBelow}
+use Rattle.kd_world.proofs.Reached.{reached_at_first}
+use Rattle.kd_world.specs.Agreed.{IsReached}
+use Rattle.kd_world.specs.World.{new_world}
 use Rattle.kd_core.proofs.Counting.{closed_below, starts_low}
 use Rattle.kd_core.proofs.world.World.make.Goals as goal
 
@@ -13,3 +16,12 @@ invariant_of-result c = record {
   steps = omega arith;
   holder = tt;
 }
+
+pub returns-clause-reached : goal.returns-clause-reached
+unfolding new_world
+returns-clause-reached c = subst IsReached (λ i. record {
+  desk = sym c.in_ok-make.ensures.opening i;
+  holder = None;
+  pools = sym c.in_ok-closed_pools.ensures i;
+  callers = sym c.in_ok-strangers.ensures i;
+}) (reached_at_first c.args.creator c.args.param.size c.args.param.hashes)

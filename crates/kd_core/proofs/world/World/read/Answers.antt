@@ -4,7 +4,7 @@ use Rattle.std.specs.Prelude.{IfOk}
 use Rattle.kd_pool.specs.State.{Hold, read}
 use Rattle.kd_core.specs.declared.event.Answer.{Answer}
 use Rattle.kd_core.specs.Acting.{answered}
-use Rattle.kd_core.specs.World.{act_at, seat_of, when_seated}
+use Rattle.kd_world.specs.World.{act_at, seat_of, when_seated}
 use Rattle.kd_core.specs.Running.{Running, told_by_pool}
 use Rattle.kd_core.proofs.Delivered.{read_says}
 use Rattle.kd_core.proofs.world.World.read.Goals as goal

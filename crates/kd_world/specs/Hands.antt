@@ -2,8 +2,8 @@
 use Rattle.std.specs.Prelude.{ℕ, true, false, List, replicate, set, Option, Some, None}
 use Rattle.kd_pool.specs.declared.receive.RecvMode.{RecvMode}
 use Rattle.kd_pool.specs.State.{Answer, got}
-use Rattle.kd_core.specs.declared.hand.Told.{Told}
-use Rattle.kd_core.specs.declared.hand.Told.TheVariants.{Peeked, Handed}
+use Rattle.kd_world.specs.declared.told.Told.{Told}
+use Rattle.kd_world.specs.declared.told.Told.TheVariants.{Peeked, Handed}
 
 -- nothing was told of any of the 256 slice numbers
 abbrev pub empty_hand : List (Option Told)

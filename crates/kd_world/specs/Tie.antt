@@ -8,7 +8,7 @@ use Rattle.kd_desk.specs.State.{Desk, opening}
 use Rattle.kd_desk.specs.Send.{Part}
 use Rattle.kd_desk.specs.Plans.{Plan}
 use Rattle.kd_desk.specs.Step.{visited}
-use Rattle.kd_core.specs.World.{World, Aimed, Event, take, leave, new_world, caller_at, act_of, planned, parts_planned, desk_end, step, runs, all_legal}
+use Rattle.kd_world.specs.World.{World, Aimed, Event, take, leave, new_world, caller_at, act_of, planned, parts_planned, desk_end, step, runs, all_legal}
 
 -- a command that left the desk, or was refused by it
 pub record DeskEntry : Type 0 where
@@ -89,9 +89,12 @@ AddressedIsOffered =
     (creator size hashes : ℕ) (es : List Event) (c : ℕ) → AreLegal creator size hashes es → IsNone ((runs (new_world creator size hashes) es).holder)
     → IsOffered creator size hashes c es
 
--- and while somebody holds it, followed by what the holder has visited
-abbrev pub OfferedSoFar : Type 0
-OfferedSoFar =
-    (creator size hashes : ℕ) (es : List Event) (c : ℕ) → AreLegal creator size hashes es
-    → made (pool_history (new_world creator size hashes) c es)
+-- a seat's pool was made that, followed by what the holder of the desk has visited there
+abbrev pub IsOfferedSoFar : ℕ → ℕ → ℕ → ℕ → List Event → Type 0
+IsOfferedSoFar creator size hashes c es =
+    made (pool_history (new_world creator size hashes) c es)
     ≡ parts (opening creator size hashes) c (desk_history (new_world creator size hashes) es) ++ visited_at (runs (new_world creator size hashes) es) c
+
+-- and so it is at any time
+abbrev pub OfferedSoFar : Type 0
+OfferedSoFar = (creator size hashes : ℕ) (es : List Event) (c : ℕ) → AreLegal creator size hashes es → IsOfferedSoFar creator size hashes c es

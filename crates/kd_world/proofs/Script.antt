@@ -25,8 +25,8 @@ use Rattle.kd_desk.specs.Leaving.{without_conns, leaving_notices, byebye, close_
 use Rattle.kd_desk.specs.Naming.{with_claim, name_acquire, without_claim, release_refusals, name_release, listed, name_list}
 use Rattle.kd_desk.specs.Asking.{match_refusals, match_add, match_remove, policy_set, endpoint_refusals, with_endpoint, endpoint_make, tick, seal, unseal}
 use Rattle.kd_desk.specs.Step.{send, plan, visited, next_part, first_ends}
-use Rattle.kd_core.specs.Pendings.{Pending}
-use Rattle.kd_core.specs.World.{World, Event, Says, take, visit, leave, publishes, receives, reads, frees, new_world, planned, parts_planned, desk_end, next_visit, caller_at, legal, act_of, pool_answer, pools_after, desk_after, holder_after, callers_after, step, says, all_legal, run_says}
+use Rattle.kd_world.specs.Pendings.{Pending}
+use Rattle.kd_world.specs.World.{World, Event, Says, take, visit, leave, publishes, receives, reads, frees, new_world, planned, parts_planned, desk_end, next_visit, caller_at, legal, act_of, pool_answer, pools_after, desk_after, holder_after, callers_after, step, says, all_legal, run_says}
 
 pub data Line : Type 0 where
   does : (caller : ℕ) (command : Command) → Line

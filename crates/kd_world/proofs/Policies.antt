@@ -5,8 +5,8 @@ use Rattle.kd_wire.specs.declared.item.WireItem.TheVariants as item
 use Rattle.kd_wire.specs.declared.command.Command.TheVariants as cmd
 use Rattle.kd_wire.specs.declared.reply.Reply.TheVariants as reply
 use Rattle.kd_pool.specs.State.{got, refused}
-use Rattle.kd_core.specs.World.{turned_away, left, pool_says}
-use Rattle.kd_core.proofs.Script.{does, gets, script, plain, hello_of, hello_as, send_to, send_name, acquire, enter}
+use Rattle.kd_world.specs.World.{turned_away, left, pool_says}
+use Rattle.kd_world.proofs.Script.{does, gets, script, plain, hello_of, hello_as, send_to, send_name, acquire, enter}
 
 -- a policy for one element more lets a stranger talk to just such names
 a_wildcard_covers_one_element :

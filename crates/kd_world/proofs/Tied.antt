@@ -10,12 +10,12 @@ use Rattle.kd_desk.specs.State.{Desk, opening}
 use Rattle.kd_desk.specs.Send.{Part}
 use Rattle.kd_desk.specs.Plans.{Plan}
 use Rattle.kd_desk.specs.Step.{visited, next_part, met, images_in, first_ends}
-use Rattle.kd_core.specs.declared.hand.Told.{Told}
-use Rattle.kd_core.specs.declared.hand.Told.TheVariants.{Peeked, Handed}
+use Rattle.kd_world.specs.declared.told.Told.{Told}
+use Rattle.kd_world.specs.declared.told.Told.TheVariants.{Peeked, Handed}
 use Rattle.kd_wire.specs.WellFormed.{is_well_formed}
-use Rattle.kd_core.specs.Pendings.{Pending}
-use Rattle.kd_core.specs.World.{World, Caller, Holder, Event, take, visit, leave, publishes, receives, reads, frees, new_world, caller_at, aimed, act_at, act_of, next_visit, parts_held, parts_planned, planned, desk_end, legal, step, desk_after, holder_after, runs, all_legal, pool_answer, publish_of, free_of, pending_of, seat_of, told_of, is_part_at, is_caller, is_for_desk}
-use Rattle.kd_core.specs.Tie.{DeskEntry, entry_of, desk_adds, act_on, pool_adds, desk_history, pool_history, visit_in, made, at_seat, acts_at, parts, visited_at, AddressedIsOffered, OfferedSoFar}
+use Rattle.kd_world.specs.Pendings.{Pending}
+use Rattle.kd_world.specs.World.{World, Caller, Holder, Event, take, visit, leave, publishes, receives, reads, frees, new_world, caller_at, aimed, act_at, act_of, next_visit, parts_held, parts_planned, planned, desk_end, legal, step, desk_after, holder_after, runs, all_legal, pool_answer, publish_of, free_of, pending_of, seat_of, told_of, is_part_at, is_caller, is_for_desk}
+use Rattle.kd_world.specs.Tie.{DeskEntry, entry_of, desk_adds, act_on, pool_adds, desk_history, pool_history, visit_in, made, at_seat, acts_at, parts, visited_at, AddressedIsOffered, OfferedSoFar}
 
 -- lists
 
@@ -37,20 +37,20 @@ unfolding acts_at
 acts_at_append c [] qs = refl
 acts_at_append c (p ∷ ps) qs = ap (at_seat c p ++◌) (acts_at_append c ps qs) ∙ sym (append_assoc (at_seat c p) (acts_at c ps) (acts_at c qs))
 
-no_some : {X : Type 0} {x : X} → None ≡ Some x → ⊥
+pub no_some : {X : Type 0} {x : X} → None ≡ Some x → ⊥
 no_some e = true≢false (sym (ap is_some e))
 
-some_back : {X : Type 0} {x y : X} → Some x ≡ Some y → x ≡ y
+pub some_back : {X : Type 0} {x y : X} → Some x ≡ Some y → x ≡ y
 some_back {X} {x} e = ap (λ o. unwrap_or o x) e
 
 no_true : false ≡ true → ⊥
 no_true e = true≢false (sym e)
 
-second : (a b : Bool) → (a && b) ≡ true → b ≡ true
+pub second : (a b : Bool) → (a && b) ≡ true → b ≡ true
 second true b e = e
 second false b e = absurd (no_true e)
 
-first_half : (a b : Bool) → (a && b) ≡ true → a ≡ true
+pub first_half : (a b : Bool) → (a && b) ≡ true → a ≡ true
 first_half true b e = refl
 first_half false b e = e
 
@@ -106,7 +106,7 @@ made_visit c p = go (p.seat == c)
     go false = refl
 
 -- a world by its parts, so that its holder can be taken by cases
-abbrev of : Desk → Option Holder → List Hold → List Caller → World
+abbrev pub of : Desk → Option Holder → List Hold → List Caller → World
 of d o pools callers = record { desk = d; holder = o; pools = pools; callers = callers }
 
 -- one event
@@ -117,7 +117,7 @@ one_take d pools callers n x c (Err r) e = rw (desk_adds, holder_after, visited_
 one_take d pools callers n x c (Ok p) e = rw (desk_adds, holder_after, visited_at, e, visited_none) refl
 
 -- the part that is visited next is the one after those with outs
-next_from : (w : World) (h : Holder) (p : Part) → next_visit w h ≡ Some p → next_part [] (parts_held w h) h.outs ≡ Some p
+pub next_from : (w : World) (h : Holder) (p : Part) → next_visit w h ≡ Some p → next_part [] (parts_held w h) h.outs ≡ Some p
 unfolding next_visit
 next_from w h p e = go (first_ends (parts_held w h) h.outs) e
   where

@@ -14,8 +14,8 @@ use Rattle.kd_wire.specs.WellFormed.{is_well_formed}
 use Rattle.kd_pool.specs.declared.receive.RecvMode.{RecvMode}
 use Rattle.kd_pool.specs.State.{Hold, Visit, Act, by_desk, Answer, offer, publish, receive, read, free, done, slice, refused, drained, freed}
 use Rattle.kd_pool.specs.Steps.{pool_step}
-use Rattle.kd_core.specs.declared.hand.Told.{Told}
-use Rattle.kd_core.specs.declared.hand.Told.TheVariants.{Peeked, Handed}
+use Rattle.kd_world.specs.declared.told.Told.{Told}
+use Rattle.kd_world.specs.declared.told.Told.TheVariants.{Peeked, Handed}
 use Rattle.kd_desk.specs.declared.conn.Conn.{Conn}
 use Rattle.kd_desk.specs.declared.who.Who.{Who}
 use Rattle.kd_desk.specs.declared.who.WhoKind.{WhoKind}
@@ -24,8 +24,8 @@ use Rattle.kd_desk.specs.State.{Desk, opening, conn_of, is_holder}
 use Rattle.kd_desk.specs.Items.{bus_in}
 use Rattle.kd_desk.specs.Send.{Part}
 use Rattle.kd_desk.specs.Plans.{Plan}
-use Rattle.kd_core.specs.Hands.{empty_hand, hand_freed, hand_received}
-use Rattle.kd_core.specs.Pendings.{Pending}
+use Rattle.kd_world.specs.Hands.{empty_hand, hand_freed, hand_received}
+use Rattle.kd_world.specs.Pendings.{Pending}
 use Rattle.kd_desk.specs.Step.{Ended, plan, parts_in, next_part, first_ends, ended_by}
 
 -- the kind stays known after the connection is gone; the hand has what was told of each slice number, and the pendings stand in the order

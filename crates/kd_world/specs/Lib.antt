@@ -1,0 +1,5 @@
+pub mod World
+pub mod Hands
+pub mod Pendings
+pub mod Tie
+pub mod Agreed
