@@ -187,97 +187,30 @@ fn seventeen_payloads_are_one_too_many(rt: HostRuntime) -> Result<(), Fail> {
     Ok(())
 }
 
+/// Eight times the letter a.
+const LETTERS: u64 = 0x6161_6161_6161_6161;
+
+/// A HELLO of 328 bytes whose description has this size with its head, 271 or 272 bytes, and ends in this word: the letter a, again and again.
+fn describing(size: u64, last: u64) -> [u64; 41] {
+    let mut words = [LETTERS; 41];
+    words[0] = 328;
+    words[1] = 1;
+    words[2] = 1;
+    words[3] = 0;
+    words[4] = 4096;
+    words[5] = 0;
+    words[6] = 0;
+    words[7] = size;
+    words[8] = 10;
+    words[40] = last;
+    words
+}
+
 #[test]
 fn a_description_has_at_most_255_bytes(rt: HostRuntime) -> Result<(), Fail> {
-    let most: [u64; 41] = [
-        328,
-        1,
-        1,
-        0,
-        4096,
-        0,
-        0,
-        271,
-        10,
-        7_016_996_765_293_437_281,
-        7_016_996_765_293_437_281,
-        7_016_996_765_293_437_281,
-        7_016_996_765_293_437_281,
-        7_016_996_765_293_437_281,
-        7_016_996_765_293_437_281,
-        7_016_996_765_293_437_281,
-        7_016_996_765_293_437_281,
-        7_016_996_765_293_437_281,
-        7_016_996_765_293_437_281,
-        7_016_996_765_293_437_281,
-        7_016_996_765_293_437_281,
-        7_016_996_765_293_437_281,
-        7_016_996_765_293_437_281,
-        7_016_996_765_293_437_281,
-        7_016_996_765_293_437_281,
-        7_016_996_765_293_437_281,
-        7_016_996_765_293_437_281,
-        7_016_996_765_293_437_281,
-        7_016_996_765_293_437_281,
-        7_016_996_765_293_437_281,
-        7_016_996_765_293_437_281,
-        7_016_996_765_293_437_281,
-        7_016_996_765_293_437_281,
-        7_016_996_765_293_437_281,
-        7_016_996_765_293_437_281,
-        7_016_996_765_293_437_281,
-        7_016_996_765_293_437_281,
-        7_016_996_765_293_437_281,
-        7_016_996_765_293_437_281,
-        7_016_996_765_293_437_281,
-        27_410_143_614_427_489,
-    ];
-    assert!(rt; comes_back(&rt, Port::Replay, &most)?);
-    let more: [u64; 41] = [
-        328,
-        1,
-        1,
-        0,
-        4096,
-        0,
-        0,
-        272,
-        10,
-        7_016_996_765_293_437_281,
-        7_016_996_765_293_437_281,
-        7_016_996_765_293_437_281,
-        7_016_996_765_293_437_281,
-        7_016_996_765_293_437_281,
-        7_016_996_765_293_437_281,
-        7_016_996_765_293_437_281,
-        7_016_996_765_293_437_281,
-        7_016_996_765_293_437_281,
-        7_016_996_765_293_437_281,
-        7_016_996_765_293_437_281,
-        7_016_996_765_293_437_281,
-        7_016_996_765_293_437_281,
-        7_016_996_765_293_437_281,
-        7_016_996_765_293_437_281,
-        7_016_996_765_293_437_281,
-        7_016_996_765_293_437_281,
-        7_016_996_765_293_437_281,
-        7_016_996_765_293_437_281,
-        7_016_996_765_293_437_281,
-        7_016_996_765_293_437_281,
-        7_016_996_765_293_437_281,
-        7_016_996_765_293_437_281,
-        7_016_996_765_293_437_281,
-        7_016_996_765_293_437_281,
-        7_016_996_765_293_437_281,
-        7_016_996_765_293_437_281,
-        7_016_996_765_293_437_281,
-        7_016_996_765_293_437_281,
-        7_016_996_765_293_437_281,
-        7_016_996_765_293_437_281,
-        7_016_996_765_293_437_281,
-    ];
+    assert!(rt; comes_back(&rt, Port::Replay, &describing(271, LETTERS >> 8))?);
     assert_eq!(rt;
-        refusal_of(&rt, Port::Replay, &more)?,
+        refusal_of(&rt, Port::Replay, &describing(272, LETTERS))?,
         Some(Refusal::Malformed { at: 56 })
     );
     Ok(())
@@ -301,7 +234,7 @@ fn unknown_commands_are_unsupported(rt: HostRuntime) -> Result<(), Fail> {
 }
 
 #[test]
-fn doubled_missing_and_bad_values_come_in_this_order(rt: HostRuntime) -> Result<(), Fail> {
+fn a_doubled_item_is_refused_first(rt: HostRuntime) -> Result<(), Fail> {
     let doubled: [&[u64]; 5] = [
         &[104, 1, 1, 0, 4096, 0, 0, 19, 8, NAME, 19, 8, NAME],
         &[
@@ -318,6 +251,11 @@ fn doubled_missing_and_bad_values_come_in_this_order(rt: HostRuntime) -> Result<
             Some(Refusal::DoubledItem)
         );
     }
+    Ok(())
+}
+
+#[test]
+fn a_missing_item_is_refused_before_bad_flags(rt: HostRuntime) -> Result<(), Fail> {
     let missing: [&[u64]; 8] = [
         &[32, 8, 1, 0],
         &[32, 9, 1, 0],
@@ -335,6 +273,11 @@ fn doubled_missing_and_bad_values_come_in_this_order(rt: HostRuntime) -> Result<
             Some(Refusal::MissingItem)
         );
     }
+    Ok(())
+}
+
+#[test]
+fn bad_flags_and_values_are_refused(rt: HostRuntime) -> Result<(), Fail> {
     let bad: [&[u64]; 22] = [
         &[56, 1, 1, 1, 4096, 0, 0],
         &[56, 1, 1, 16, 4096, 0, 0],
@@ -365,14 +308,19 @@ fn doubled_missing_and_bad_values_come_in_this_order(rt: HostRuntime) -> Result<
             Some(Refusal::BadFlags)
         );
     }
-    let bad_buses: [&[u64]; 5] = [
+    Ok(())
+}
+
+#[test]
+fn a_bus_has_filters_of_whole_words_and_few_hashes(rt: HostRuntime) -> Result<(), Fail> {
+    let bad: [&[u64]; 5] = [
         &[72, 15, 0, 0, 0, 8, 19, 8, NAME],
         &[72, 15, 0, 0, 12, 8, 19, 8, NAME],
         &[72, 15, 0, 0, 520, 8, 19, 8, NAME],
         &[72, 15, 0, 0, 64, 0, 19, 8, NAME],
         &[72, 15, 0, 0, 64, 9, 19, 8, NAME],
     ];
-    for words in bad_buses {
+    for words in bad {
         assert_eq!(rt;
             refusal_of(&rt, Port::Session, words)?,
             Some(Refusal::BadFlags)
