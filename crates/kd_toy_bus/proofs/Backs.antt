@@ -3,7 +3,7 @@ use Rattle.std.proofs.Common.{◌≡◌, ℕ, zero, suc, ◌<◌, List, [], ◌�
 use Rattle.std.specs.Prelude.{All, Any}
 use mathlib.Core.Option.{some, some-injective, some-ne-none}
 use lib.ListN.{get_elem?}
-use Rattle.kd_turn.specs.declared.views.Part.{Part}
+use Rattle.kd_hands.specs.declared.views.Part.{Part}
 use Rattle.kd_turn.specs.Sight.{GateSight, Sight}
 use Rattle.kd_toy_bus.specs.Rests.{AreBack, AreNew, IsNew, Rests}
 

@@ -2,12 +2,13 @@
 use Rattle.std.proofs.Common.{◌≡◌, ℕ, ◌/◌, ◌<◌, ◌≢◌, ◌==◌, ◌||◌, Bool, true, false, List, [], ◌∷◌, ◌++◌, eq-eqb, ne_eqb, sym, refl, ap, ◌∙◌, arith}
 use mathlib.Core.Logic.{dite}
 use native.Mathlib.Decide.{ℕ_discrete}
-use Rattle.kd_turn.specs.declared.views.Part.{Part}
-use Rattle.kd_turn.specs.declared.views.View.{View}
-use Rattle.kd_turn.specs.Lists.{part, is_word_of, was_swept, has_bit}
-use Rattle.kd_turn.specs.World.{World}
+use Rattle.kd_hands.specs.declared.views.Part.{Part}
+use Rattle.kd_hands.specs.declared.views.View.{View}
+use Rattle.kd_hands.specs.Views.{part}
+use Rattle.kd_hands.specs.Lists.{is_word_of, was_swept, has_bit}
+use Rattle.kd_hands.specs.World.{World}
 use Rattle.kd_turn.specs.Told.{Took, Passed, DidSweep}
-use Rattle.kd_turn.proofs.Passes.{opened_on}
+use Rattle.kd_hands.proofs.Entries.{opened_on}
 use Rattle.kd_toy_bus.specs.declared.act.Slip.{Slip}
 use Rattle.kd_toy_bus.specs.declared.locked.Locked.{Locked}
 use Rattle.kd_toy_bus.specs.declared.act.Act.{Act}

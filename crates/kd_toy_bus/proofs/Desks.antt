@@ -3,12 +3,15 @@ use Rattle.std.proofs.Common.{◌≡◌, ℕ, zero, suc, ◌⊎◌, ◌==◌, �
 use Rattle.std.specs.Prelude.{Some, None}
 use mathlib.Core.Logic.{dite}
 use native.Mathlib.Decide.{ℕ_discrete}
-use Rattle.kd_turn.specs.declared.views.View.{View}
-use Rattle.kd_turn.specs.Lists.{part, has, is_marked, was_swept, is_at}
-use Rattle.kd_turn.specs.World.{World, Handed, Fact, entered, hands_after}
-use Rattle.kd_turn.specs.Told.{Fits, Owes}
-use Rattle.kd_turn.proofs.Changed.{place_here, is_at_some, is_at_not}
-use Rattle.kd_turn.proofs.Settled.{Settles, settled, lists_here, lists_else, mine_here, others, swept_else}
+use Rattle.kd_hands.specs.declared.views.View.{View}
+use Rattle.kd_hands.specs.Views.{part}
+use Rattle.kd_hands.specs.Lists.{has, is_marked, was_swept, is_at}
+use Rattle.kd_hands.specs.World.{World, Handed, Fact, entered, hands_after}
+use Rattle.kd_hands.specs.Fits.{Fits, Owes}
+use Rattle.kd_hands.proofs.Places.{place_here, is_at_some, is_at_not}
+use Rattle.kd_hands.specs.Settles.{Settles}
+use Rattle.kd_hands.proofs.Hands.{settled}
+use Rattle.kd_hands.proofs.Entries.{lists_here, lists_else, mine_here, others, swept_else}
 use Rattle.kd_toy_bus.specs.declared.act.Slip.{Slip}
 use Rattle.kd_toy_bus.specs.Bus.{act_of, keeps, kept_from, IsFair, is_seated, part_at, made_by_one, opened_at, lends, out, keeper, hand_with, hand_after, emptied_by, empties, Tie}
 use Rattle.kd_toy_bus.proofs.Laws.{kept_snoc, seated_is, at_is}
@@ -21,10 +24,10 @@ module _ (e : Slip) (v : View Slip) (w : World Slip) (fits : Fits v w) (held : (
   hands_same : (i k : ℕ) → w'.hands i k ≡ w.hands i k
   hands_same i k = dite (ℕ_discrete i v.name)
       (λ z. ap (λ (j : ℕ). w'.hands j k) z ∙ (mine k ∙ ap (λ (j : ℕ). w.hands j k) (sym z)))
-      (λ ne. others lends out keeper hand_after empties 0 e v w fits held h i k ne)
+      (λ ne. others (hands_after hand_after empties) 0 v.name e w i k ne)
     where
       mine : (k : ℕ) → w'.hands v.name k ≡ w.hands v.name k
-      mine zero = mine_here lends out keeper hand_after empties 0 e v w fits held h ∙ same (w.hands v.name 0)
+      mine zero = mine_here hand_after empties 0 v.name e w ∙ same (w.hands v.name 0)
       mine (suc k) = ap (λ (f : ℕ → List ℕ). f (suc k)) (place_here w.hands v.name v.name (hands_after hand_after empties 0 e (w.hands v.name)) refl) ∙ (ap (λ b. cond b (hand_after 0 e (w.hands v.name 0)) (cond ((0 == 0) && is_at (suc k) (empties e)) [] (w.hands v.name (suc k)))) (ne_eqb (suc k) 0 (λ z. omega arith)) ∙ (ap (λ b. cond (b && is_at (suc k) (empties e)) [] (w.hands v.name (suc k))) (eq-eqb 0 0 refl) ∙ ap (λ o. cond (is_at (suc k) o) [] (w.hands v.name (suc k))) bare))
 
   -- the keepers of all seats stay
@@ -40,10 +43,10 @@ module _ (e : Slip) (v : View Slip) (w : World Slip) (fits : Fits v w) (held : (
   }
     where
       lists_same : (k : ℕ) → w'.told.lists (suc k) ≡ w.told.lists (suc k)
-      lists_same k = lists_else lends out keeper hand_after empties 0 e v w fits held h (suc k) (λ z. omega arith)
+      lists_same k = lists_else (hands_after hand_after empties) 0 v.name e w (suc k) (λ z. omega arith)
 
       swept_same : (i k : ℕ) → w'.swept i (suc k) ≡ w.swept i (suc k)
-      swept_same i k = swept_else lends out keeper hand_after empties 0 e v w fits held h i (suc k) (λ z. omega arith)
+      swept_same i k = swept_else (hands_after hand_after empties) 0 v.name e w i (suc k) (λ z. omega arith)
 
       lent : (i k n : ℕ) → has n (w.hands i k) ≡ true → lends k (w'.told.lists k) n
       lent i zero n q = h.lent i 0 n q
@@ -55,7 +58,7 @@ module _ (e : Slip) (v : View Slip) (w : World Slip) (fits : Fits v w) (held : (
 
       kept : (k i : ℕ) → keeper k (w.told.lists 0) ≡ Some i → keeper k (w'.told.lists 0) ≡ Some i
       kept zero i q = q
-      kept (suc c) i q = ap (kept_from c None) (lists_here lends out keeper hand_after empties 0 e v w fits held h) ∙ (kept_snoc c None (w.told.lists 0) (v.name, e) ∙ keep c i q)
+      kept (suc c) i q = ap (kept_from c None) (lists_here (hands_after hand_after empties) 0 v.name e w) ∙ (kept_snoc c None (w.told.lists 0) (v.name, e) ∙ keep c i q)
 
       found : (k n : ℕ) → out k (w'.told.lists k) n → ((i : ℕ) × (has n (w'.hands i k) ≡ true)) ⊎ ((is_marked n (w.marks k) ≡ true) ⊎ ((i : ℕ) × (was_swept n (w'.swept i k) ≡ true)))
       found zero n o = absurd o
@@ -80,16 +83,16 @@ pub keeper_mine : (s : ℕ) (v : View Slip) (w : World Slip) → Fits v w → Ti
 keeper_mine s v w fits tie mine = at_is v.name (kept_from s None (w.told.lists 0)) (seated_is s v.name None (w.told.lists 0) (tie.fair s) ∙ (ap (is_seated s) (fits.mine 0) ∙ mine))
 
 -- an entry on a pool by a pass that holds the desk, and by one that doesn't
-pub owes_visit : (s : ℕ) (e : Slip) (v : View Slip) → (part v 0).holds ≡ true → (part v (suc s)).holds ≡ true → ((w : World Slip) → Fits v w → Handed lends out keeper w → Settles lends out keeper hand_after (suc s) e v w) → OwesPut v (suc s) e
+pub owes_visit : (s : ℕ) (e : Slip) (v : View Slip) → (part v 0).holds ≡ true → (part v (suc s)).holds ≡ true → ((w : World Slip) → Fits v w → Handed lends out keeper w → Settles lends out keeper hand_after (suc s) e v.name w) → OwesPut v (suc s) e
 owes_visit s e v desk held settles w fits f = (
   visits (hands_after hand_after empties) v.name e w f.0 s (is_at_some v.name w.holder (fits.opened desk).1),
-  settled lends out keeper hand_after empties (suc s) e v w fits held f.1 (λ z. omega arith) (settles w fits f.1),
+  settled lends out keeper hand_after empties (suc s) e v.name w f.1 (fits.sole (suc s) held) (λ z. omega arith) (settles w fits f.1),
 )
 
-pub owes_alone : (s : ℕ) (e : Slip) (v : View Slip) → (part v 0).holds ≡ false → (part v (suc s)).holds ≡ true → made_by_one (act_of e) ≡ [] → ((w : World Slip) → Fits v w → Tie w.told → Handed lends out keeper w → Settles lends out keeper hand_after (suc s) e v w) → OwesPut v (suc s) e
+pub owes_alone : (s : ℕ) (e : Slip) (v : View Slip) → (part v 0).holds ≡ false → (part v (suc s)).holds ≡ true → made_by_one (act_of e) ≡ [] → ((w : World Slip) → Fits v w → Tie w.told → Handed lends out keeper w → Settles lends out keeper hand_after (suc s) e v.name w) → OwesPut v (suc s) e
 owes_alone s e v desk held none settles w fits f = (
   between (hands_after hand_after empties) v.name e w f.0 s (is_at_not v.name w.holder (fits.closed desk)) none,
-  settled lends out keeper hand_after empties (suc s) e v w fits held f.1 (λ z. omega arith) (settles w fits f.0 f.1),
+  settled lends out keeper hand_after empties (suc s) e v.name w f.1 (fits.sole (suc s) held) (λ z. omega arith) (settles w fits f.0 f.1),
 )
 
 -- the desk is left with an entry that addresses what was visited, and takes no seat away

@@ -4,7 +4,7 @@ use Rattle.std.specs.Prelude.{Option, Some, None}
 use Rattle.std.proofs.lemmas.List.{append-nil}
 use mathlib.Core.Logic.{dite}
 use native.Mathlib.Decide.{ℕ_discrete}
-use Rattle.kd_turn.specs.Lists.{made_by, is_at}
+use Rattle.kd_hands.specs.Lists.{made_by, is_at}
 use Rattle.kd_toy_bus.specs.declared.act.Slip.{Slip}
 use Rattle.kd_toy_bus.specs.declared.act.Act.{Act}
 use Rattle.kd_toy_bus.specs.declared.act.Act.TheVariants.{Join, Leave, Send, Raise, Close, Offer, Receive, Idle}

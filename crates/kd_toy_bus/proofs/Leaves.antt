@@ -3,12 +3,13 @@ use Rattle.std.proofs.Common.{◌≡◌, ℕ, zero, suc, ◌≢◌, ◌⊎◌, �
 use Rattle.std.specs.Prelude.{Some, None}
 use mathlib.Core.Logic.{dite}
 use native.Mathlib.Decide.{ℕ_discrete}
-use Rattle.kd_turn.specs.declared.views.View.{View}
-use Rattle.kd_turn.specs.Lists.{part, has, is_marked, was_swept, is_at}
-use Rattle.kd_turn.specs.World.{World, Handed, entered, hands_after}
-use Rattle.kd_turn.specs.Told.{Fits}
-use Rattle.kd_turn.proofs.Changed.{not_both, some_same, place_here}
-use Rattle.kd_turn.proofs.Settled.{lists_here, lists_else, mine_here, others, swept_else}
+use Rattle.kd_hands.specs.declared.views.View.{View}
+use Rattle.kd_hands.specs.Views.{part}
+use Rattle.kd_hands.specs.Lists.{has, is_marked, was_swept, is_at}
+use Rattle.kd_hands.specs.World.{World, Handed, entered, hands_after}
+use Rattle.kd_hands.specs.Fits.{Fits}
+use Rattle.kd_hands.proofs.Places.{not_both, place_here, some_same}
+use Rattle.kd_hands.proofs.Entries.{lists_here, lists_else, mine_here, others, swept_else}
 use Rattle.kd_toy_bus.specs.declared.act.Slip.{Slip}
 use Rattle.kd_toy_bus.specs.declared.act.Act.TheVariants.{Leave}
 use Rattle.kd_toy_bus.specs.declared.locked.Pool.TheVariants.{Closed}
@@ -37,11 +38,11 @@ module _ (s : ℕ) (e : Slip) (v : View Slip) (w : World Slip) (fits : Fits v w)
   by P here else i = dite (ℕ_discrete i v.name) (λ z. subst P (sym z) here) (λ ne. else i ne)
 
   other : (i k : ℕ) → i ≢ v.name → w'.hands i k ≡ w.hands i k
-  other i k ne = others lends out keeper hand_after empties 0 e v w fits held h i k ne
+  other i k ne = others (hands_after hand_after empties) 0 v.name e w i k ne
 
   hands_zero : (i : ℕ) → w'.hands i 0 ≡ w.hands i 0
   hands_zero i = by (λ i. w'.hands i 0 ≡ w.hands i 0)
-      (mine_here lends out keeper hand_after empties 0 e v w fits held h ∙ ap (λ a. hand_with a (w.hands v.name 0)) is)
+      (mine_here hand_after empties 0 v.name e w ∙ ap (λ a. hand_with a (w.hands v.name 0)) is)
       (λ i ne. other i 0 ne) i
 
   hands_else : (i c : ℕ) → c ≢ s → w'.hands i (suc c) ≡ w.hands i (suc c)
@@ -66,10 +67,10 @@ module _ (s : ℕ) (e : Slip) (v : View Slip) (w : World Slip) (fits : Fits v w)
   still_not i k n q = ⊎_elim (λ same. ap (has n) same ∙ q) (λ none. ap (has n) none) (hands_at i k)
 
   lists_same : (k : ℕ) → w'.told.lists (suc k) ≡ w.told.lists (suc k)
-  lists_same k = lists_else lends out keeper hand_after empties 0 e v w fits held h (suc k) (λ z. omega arith)
+  lists_same k = lists_else (hands_after hand_after empties) 0 v.name e w (suc k) (λ z. omega arith)
 
   swept_same : (i k : ℕ) → w'.swept i (suc k) ≡ w.swept i (suc k)
-  swept_same i k = swept_else lends out keeper hand_after empties 0 e v w fits held h i (suc k) (λ z. omega arith)
+  swept_same i k = swept_else (hands_after hand_after empties) 0 v.name e w i (suc k) (λ z. omega arith)
 
   lent : (i k n : ℕ) → has n (w.hands i k) ≡ true → lends k (w'.told.lists k) n
   lent i zero n q = h.lent i 0 n q
@@ -80,7 +81,7 @@ module _ (s : ℕ) (e : Slip) (v : View Slip) (w : World Slip) (fits : Fits v w)
   lent_mark (suc k) n q = subst (λ g. lends (suc k) g n) (sym (lists_same k)) (h.lent_mark (suc k) n q)
 
   keeper_now : (c : ℕ) → keeper (suc c) (w'.told.lists 0) ≡ cond (s == c) None (keeper (suc c) (w.told.lists 0))
-  keeper_now c = ap (kept_from c None) (lists_here lends out keeper hand_after empties 0 e v w fits held h) ∙ (kept_snoc c None (w.told.lists 0) (v.name, e) ∙ ap (λ a. keeps c v.name a (kept_from c None (w.told.lists 0))) is)
+  keeper_now c = ap (kept_from c None) (lists_here (hands_after hand_after empties) 0 v.name e w) ∙ (kept_snoc c None (w.told.lists 0) (v.name, e) ∙ ap (λ a. keeps c v.name a (kept_from c None (w.told.lists 0))) is)
 
   kept : (i k n : ℕ) → has n (w'.hands i k) ≡ true → keeper k (w'.told.lists 0) ≡ Some i
   kept i zero n q = h.kept i 0 n (was i 0 n q)

@@ -3,12 +3,13 @@ use Rattle.std.proofs.Common.{◌≡◌, ℕ, suc, ◌⊎◌, ◌||◌, Bool, tr
 use Rattle.std.specs.Prelude.{Some}
 use mathlib.Core.Logic.{dite}
 use native.Mathlib.Decide.{ℕ_discrete}
-use Rattle.kd_turn.specs.declared.views.View.{View}
-use Rattle.kd_turn.specs.Lists.{part, has, is_marked, was_swept}
-use Rattle.kd_turn.specs.World.{World, Handed}
-use Rattle.kd_turn.specs.Told.{Fits}
-use Rattle.kd_turn.proofs.Changed.{not_both}
-use Rattle.kd_turn.proofs.Settled.{Settles}
+use Rattle.kd_hands.specs.declared.views.View.{View}
+use Rattle.kd_hands.specs.Views.{part}
+use Rattle.kd_hands.specs.Lists.{has, is_marked, was_swept}
+use Rattle.kd_hands.specs.World.{World, Handed}
+use Rattle.kd_hands.specs.Fits.{Fits}
+use Rattle.kd_hands.proofs.Places.{not_both}
+use Rattle.kd_hands.specs.Settles.{Settles}
 use Rattle.kd_toy_bus.specs.declared.act.Slip.{Slip}
 use Rattle.kd_toy_bus.specs.declared.act.Act.TheVariants.{Close, Offer, Receive}
 use Rattle.kd_toy_bus.specs.declared.locked.Pool.{Pool}
@@ -33,7 +34,7 @@ module _ (s : ℕ) (e : Slip) (v : View Slip) (w : World Slip) (fits : Fits v w)
       → ((n : ℕ) → is_marked n (w.marks (suc s)) ≡ true → pool_lends p' n)
       → ((n : ℕ) → pool_out p' n → ((i : ℕ) × (has n (w.hands i (suc s)) ≡ true)) ⊎ (is_marked n (w.marks (suc s)) ≡ true))
       → ((i n : ℕ) → pool_out p' n → is_marked n (w.marks (suc s)) ≡ true → has n (w.hands i (suc s)) ≡ false)
-      → Settles lends out keeper hand_after (suc s) e v w
+      → Settles lends out keeper hand_after (suc s) e v.name w
   same_hand same in_hand in_marks found once =
       let back : (n : ℕ) → has n (hand_with (act_of e) (w.hands v.name (suc s))) ≡ true → has n (w.hands v.name (suc s)) ≡ true = λ n q. ap (has n) (sym (same (w.hands v.name (suc s)))) ∙ q in
       record {
@@ -56,7 +57,7 @@ module _ (s : ℕ) (e : Slip) (v : View Slip) (w : World Slip) (fits : Fits v w)
       (λ ne. not_both (was_swept n (w.swept i (suc s))) q (ap (was_swept n) (fits.sole (suc s) held i ne)))
 
   -- the pool stays as it is
-  pub stays : ((hand : List ℕ) → hand_with (act_of e) hand ≡ hand) → p' ≡ p → ((i n : ℕ) → pool_out p n → was_swept n (w.swept i (suc s)) ≡ true → ⊥) → Settles lends out keeper hand_after (suc s) e v w
+  pub stays : ((hand : List ℕ) → hand_with (act_of e) hand ≡ hand) → p' ≡ p → ((i n : ℕ) → pool_out p n → was_swept n (w.swept i (suc s)) ≡ true → ⊥) → Settles lends out keeper hand_after (suc s) e v.name w
   stays same is unswept = same_hand same
       (λ i n q. subst (λ x. pool_lends x n) (sym is) (h.lent i (suc s) n q))
       (λ n m. subst (λ x. pool_lends x n) (sym is) (h.lent_mark (suc s) n m))
@@ -64,11 +65,11 @@ module _ (s : ℕ) (e : Slip) (v : View Slip) (w : World Slip) (fits : Fits v w)
       (λ i n o m. h.once i (suc s) n (subst (λ x. pool_out x n) is o) m)
 
   -- the pool comes to a state that lends nothing, where nothing was in a hand or marked
-  pub comes_free : ((hand : List ℕ) → hand_with (act_of e) hand ≡ hand) → ((n : ℕ) → pool_out p' n → ⊥) → ((i n : ℕ) → has n (w.hands i (suc s)) ≡ true → ⊥) → ((n : ℕ) → is_marked n (w.marks (suc s)) ≡ true → ⊥) → Settles lends out keeper hand_after (suc s) e v w
+  pub comes_free : ((hand : List ℕ) → hand_with (act_of e) hand ≡ hand) → ((n : ℕ) → pool_out p' n → ⊥) → ((i n : ℕ) → has n (w.hands i (suc s)) ≡ true → ⊥) → ((n : ℕ) → is_marked n (w.marks (suc s)) ≡ true → ⊥) → Settles lends out keeper hand_after (suc s) e v.name w
   comes_free same none_out no_hand no_mark = same_hand same (λ i n q. absurd (no_hand i n q)) (λ n m. absurd (no_mark n m)) (λ n o. absurd (none_out n o)) (λ i n o _. absurd (none_out n o))
 
   -- the pool is closed: it lends every number, and has none out
-  pub closes : act_of e ≡ Close → Settles lends out keeper hand_after (suc s) e v w
+  pub closes : act_of e ≡ Close → Settles lends out keeper hand_after (suc s) e v.name w
   closes is =
       let now : p' ≡ Closed = next_is ∙ ap (λ a. pool_after a p) is in
       same_hand (λ hand. ap (λ a. hand_with a hand) is)
@@ -78,7 +79,7 @@ module _ (s : ℕ) (e : Slip) (v : View Slip) (w : World Slip) (fits : Fits v w)
       (λ i n o m. absurd (subst (λ x. pool_out x n) now o))
 
   -- a receive takes the slice into the hand
-  pub receives : act_of e ≡ Receive → p ≡ Placed → keeper (suc s) (w.told.lists 0) ≡ Some v.name → Settles lends out keeper hand_after (suc s) e v w
+  pub receives : act_of e ≡ Receive → p ≡ Placed → keeper (suc s) (w.told.lists 0) ≡ Some v.name → Settles lends out keeper hand_after (suc s) e v.name w
   receives is was mine =
       let now : p' ≡ IsOut = next_is ∙ (ap (λ a. pool_after a p) is ∙ ap received was) in
       let hand_is : hand_with (act_of e) (w.hands v.name (suc s)) ≡ 200 ∷ w.hands v.name (suc s) = ap (λ a. hand_with a (w.hands v.name (suc s))) is in
@@ -100,7 +101,7 @@ module _ (s : ℕ) (e : Slip) (v : View Slip) (w : World Slip) (fits : Fits v w)
       has_it n hand z = ap (λ b. b || has n hand) (eq-eqb 200 n (sym z))
 
 -- what an offer does to the pool, whose sweep told of the slice
-pub offers : (s : ℕ) (e : Slip) (swept : Bool) (v : View Slip) (w : World Slip) (fits : Fits v w) (held : (part v (suc s)).holds ≡ true) (h : Handed lends out keeper w) → act_of e ≡ Offer swept → was_swept 200 (part v (suc s)).swept ≡ swept → Settles lends out keeper hand_after (suc s) e v w
+pub offers : (s : ℕ) (e : Slip) (swept : Bool) (v : View Slip) (w : World Slip) (fits : Fits v w) (held : (part v (suc s)).holds ≡ true) (h : Handed lends out keeper w) → act_of e ≡ Offer swept → was_swept 200 (part v (suc s)).swept ≡ swept → Settles lends out keeper hand_after (suc s) e v.name w
 offers s e swept v w fits held h is told = cases (pool_of (w.told.lists (suc s))) refl swept refl
   where
     same : (hand : List ℕ) → hand_with (act_of e) hand ≡ hand
@@ -114,12 +115,12 @@ offers s e swept v w fits held h is told = cases (pool_of (w.told.lists (suc s))
         (λ z. sym told ∙ (ap (was_swept 200) (fits.swept (suc s) ∙ ap (λ (j : ℕ). w.swept j (suc s)) (sym z)) ∙ q))
         (λ ne. absurd (not_both (was_swept 200 (w.swept i (suc s))) q (ap (was_swept 200) (fits.sole (suc s) held i ne))))
 
-    none : (q : Pool) → ((n : ℕ) → pool_lends q n → ⊥) → pool_of (w.told.lists (suc s)) ≡ q → ((n : ℕ) → pool_out (offered swept q) n → ⊥) → Settles lends out keeper hand_after (suc s) e v w
+    none : (q : Pool) → ((n : ℕ) → pool_lends q n → ⊥) → pool_of (w.told.lists (suc s)) ≡ q → ((n : ℕ) → pool_out (offered swept q) n → ⊥) → Settles lends out keeper hand_after (suc s) e v.name w
     none q bare at ends = comes_free s e v w fits held h same (λ n o. ends n (subst (λ x. pool_out x n) (now q at) o))
         (λ i n t. bare n (subst (λ x. pool_lends x n) at (h.lent i (suc s) n t)))
         (λ n t. bare n (subst (λ x. pool_lends x n) at (h.lent_mark (suc s) n t)))
 
-    cases : (q : Pool) → pool_of (w.told.lists (suc s)) ≡ q → (b : Bool) → swept ≡ b → Settles lends out keeper hand_after (suc s) e v w
+    cases : (q : Pool) → pool_of (w.told.lists (suc s)) ≡ q → (b : Bool) → swept ≡ b → Settles lends out keeper hand_after (suc s) e v.name w
     cases Closed at b eq = stays s e v w fits held h same (now Closed at ∙ sym at) (λ i n o _. subst (λ x. pool_out x n) at o)
     cases Free at b eq = none Free (λ n z. z) at (λ n o. o)
     cases Placed at b eq = none Placed (λ n z. z) at (λ n o. o)

@@ -5,11 +5,12 @@ use Rattle.std.proofs.lemmas.Bool.{ltb-true}
 use Rattle.std.proofs.lemmas.List.{append-nil}
 use mathlib.Core.Logic.{dite}
 use native.Mathlib.Decide.{ℕ_discrete}
-use Rattle.kd_turn.specs.declared.views.View.{View}
-use Rattle.kd_turn.specs.Lists.{part, is_marked, has_bit, was_swept, is_word_of}
-use Rattle.kd_turn.specs.World.{World}
-use Rattle.kd_turn.specs.Told.{Fits}
-use Rattle.kd_turn.proofs.Changed.{not_both}
+use Rattle.kd_hands.specs.declared.views.View.{View}
+use Rattle.kd_hands.specs.Views.{part}
+use Rattle.kd_hands.specs.Lists.{is_marked, has_bit, was_swept, is_word_of}
+use Rattle.kd_hands.specs.World.{World}
+use Rattle.kd_hands.specs.Fits.{Fits}
+use Rattle.kd_hands.proofs.Places.{not_both}
 use Rattle.kd_toy_bus.specs.declared.act.Slip.{Slip}
 use Rattle.kd_toy_bus.specs.declared.act.Act.TheVariants.{Join, Leave, Send, Raise, Close, Offer, Receive, Idle}
 use Rattle.kd_toy_bus.specs.declared.locked.Desk.{Desk}

@@ -4,10 +4,10 @@ use Rattle.std.specs.Prelude.{None}
 use Rattle.std.proofs.lemmas.List.{append-nil}
 use mathlib.Core.Logic.{dite}
 use native.Mathlib.Decide.{ℕ_discrete}
-use Rattle.kd_turn.specs.Lists.{is_at, at_place}
-use Rattle.kd_turn.specs.World.{World, entered, opened_after}
-use Rattle.kd_turn.proofs.Changed.{place_here, place_else}
-use Rattle.kd_turn.proofs.Passes.{opened_on, opened_off}
+use Rattle.kd_hands.specs.Lists.{is_at, at_place}
+use Rattle.kd_hands.specs.World.{World, entered, opened_after}
+use Rattle.kd_hands.proofs.Places.{place_here, place_else}
+use Rattle.kd_hands.proofs.Entries.{opened_on, opened_off}
 use Rattle.kd_toy_bus.specs.declared.act.Slip.{Slip}
 use Rattle.kd_toy_bus.specs.Bus.{act_of, IsFair, AreFair, kept_from, part_at, parts, made_by_one, made, opened_at, Tie}
 use Rattle.kd_toy_bus.proofs.Laws.{made_snoc, parts_snoc, opened_snoc, fair_snoc}

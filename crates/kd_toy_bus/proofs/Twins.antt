@@ -2,14 +2,16 @@
 use Rattle.std.proofs.Common.{◌≡◌, ℕ, ◌+◌, ◌*◌, ◌≢◌, true, false, List, [], ◌∷◌, ◌++◌, length, sym, refl, ap, ◌∙◌, arith, length-append}
 use Rattle.std.specs.Prelude.{None}
 use Rattle.std.specs.declared.snapshot.Snapshot.{Snapshot}
-use Rattle.kd_turn.specs.declared.views.Part.{Part}
-use Rattle.kd_turn.specs.declared.views.View.{View}
-use Rattle.kd_turn.specs.Lists.{part, is_at, at_place}
-use Rattle.kd_turn.specs.World.{World, Histories, Fact, hands_after, opened_after}
-use Rattle.kd_turn.specs.Told.{Owes, Passed, Took}
-use Rattle.kd_turn.proofs.Changed.{place_here, place_else, is_at_some}
-use Rattle.kd_turn.proofs.Passes.{opened_on}
-use Rattle.kd_turn.proofs.Unlent.{lends_nothing}
+use Rattle.kd_hands.specs.declared.views.Part.{Part}
+use Rattle.kd_hands.specs.declared.views.View.{View}
+use Rattle.kd_hands.specs.Views.{part}
+use Rattle.kd_hands.specs.Lists.{is_at, at_place}
+use Rattle.kd_hands.specs.World.{World, Histories, Fact, hands_after, opened_after}
+use Rattle.kd_hands.specs.Fits.{Owes}
+use Rattle.kd_turn.specs.Told.{Passed, Took}
+use Rattle.kd_hands.proofs.Places.{place_here, place_else, is_at_some}
+use Rattle.kd_hands.proofs.Entries.{opened_on}
+use Rattle.kd_hands.proofs.Hands.{lends_nothing}
 use Rattle.kd_toy_bus.specs.declared.twice.Twice.{Twice}
 
 abbrev Turn : Type 0

@@ -2,7 +2,7 @@
 use Rattle.std.specs.Prelude.{◌≡◌, ℕ, ◌<◌, false, List, [], length, slice_index_or}
 use mathlib.Core.Option.{some}
 use lib.ListN.{get_elem?}
-use Rattle.kd_turn.specs.Lists.{part}
+use Rattle.kd_hands.specs.Views.{part}
 use Rattle.kd_turn.specs.Sight.{GateSight, Sight}
 use Rattle.kd_turn.specs.Told.{IsFresh}
 

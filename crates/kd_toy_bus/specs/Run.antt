@@ -2,8 +2,8 @@
 use Rattle.std.specs.Prelude.{◌≡◌, ℕ, ◌+◌, ◌≤◌, List, [], length}
 use mathlib.Core.Option.{some}
 use lib.ListN.{get_elem?}
-use Rattle.kd_turn.specs.Lists.{made_by}
-use Rattle.kd_turn.specs.World.{Histories}
+use Rattle.kd_hands.specs.Lists.{made_by}
+use Rattle.kd_hands.specs.World.{Histories}
 use Rattle.kd_toy_bus.specs.declared.act.Slip.{Slip}
 use Rattle.kd_toy_bus.specs.declared.locked.Locked.{Locked}
 use Rattle.kd_toy_bus.specs.Bus.{Tie, stands}

@@ -1,6 +1,7 @@
 //! The calls of the bus.
 ghost use Rattle.std.specs.Prelude.{◌≡◌, ◌≢◌, ℕ, ◌+◌, ◌^◌, ◌<◌, ◌≤◌, true, false, [], ◌∷◌, IsTrue, IsFalse, IfOk, Bool, None, is_some, length, slice_index};
-ghost use Rattle.kd_turn.specs.Lists.{part, hand, has, has_bit};
+ghost use Rattle.kd_hands.specs.Views.{part, hand};
+ghost use Rattle.kd_hands.specs.Lists.{has, has_bit};
 ghost use Rattle.kd_toy_bus.specs.Bus.{Adds, IsIdle, is_seated, kept_from, pool_of, offered as pool_offered};
 ghost use Rattle.kd_toy_bus.specs.Rests.{AreNew};
 

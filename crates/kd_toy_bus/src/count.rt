@@ -1,6 +1,7 @@
 //! A value that counts the turns on its lock. A turn may lend a number to the second pass.
 ghost use Rattle.std.specs.Prelude.{◌≡◌, ◌⊎◌, ℕ, ◌+◌, ◌*◌, ◌^◌, ◌<◌, ◌≤◌, [], length, true, false, None, Some, IfOk};
-ghost use Rattle.kd_turn.specs.Lists.{hand, has};
+ghost use Rattle.kd_hands.specs.Views.{hand};
+ghost use Rattle.kd_hands.specs.Lists.{has};
 ghost use Rattle.kd_toy_bus.specs.Rests.{AreBack, AreNew, Rests};
 
 use crate::passes::{both, two_of, values_of};

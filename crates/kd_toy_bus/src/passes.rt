@@ -1,7 +1,7 @@
 //! The passes of a gate, as they were made and as they come back.
 ghost use Rattle.std.specs.Prelude.{◌≡◌, ℕ, [], ◌∷◌, length, IfOk, map};
 ghost use Rattle.kd_turn.specs.Told.{Ended};
-ghost use Rattle.kd_turn.specs.World.{Fact};
+ghost use Rattle.kd_hands.specs.World.{Fact};
 ghost use Rattle.kd_toy_bus.specs.Rests.{AreBack, AreNew, IsNew, Rests};
 
 use kd_turn::gate::Gate;

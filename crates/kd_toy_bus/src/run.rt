@@ -1,6 +1,6 @@
 //! A run of the bus: two passes, each in a thread of its own.
 ghost use Rattle.std.specs.Prelude.{◌≡◌, ℕ, ◌+◌, ◌*◌, ◌^◌, ◌<◌, ◌≤◌, true, length, IfOk, IfSome};
-ghost use Rattle.kd_turn.specs.Lists.{part};
+ghost use Rattle.kd_hands.specs.Views.{part};
 ghost use Rattle.kd_toy_bus.specs.Bus.{IsIdle, is_seated};
 ghost use Rattle.kd_toy_bus.specs.Run.{HasAll};
 

@@ -1,5 +1,3 @@
-pub mod Lists
-pub mod World
 pub mod Rule
 pub mod Sight
 pub mod Told

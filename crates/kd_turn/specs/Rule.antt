@@ -1,16 +1,26 @@
 -- The rule of the turns. A gate of n locks has 6 n words: word l is the next ticket of the lock l, word n + l the ticket that is served, and the words
 -- from 2 n + 4 l on are its four mark words.
-use Rattle.std.specs.Prelude.{◌≡◌, ℕ, ◌+◌, ◌*◌, ◌^◌, ◌<◌, ◌≤◌, Bool, true, false, cond, List, [], ◌∷◌, ◌++◌, map, length, slice_index_or, slice_set, Option, Some, None}
+use Rattle.std.specs.Prelude.{◌≡◌, ℕ, ◌+◌, ◌*◌, ◌^◌, ◌<◌, ◌≤◌, ◌==◌, Bool, true, false, cond, List, [], length, slice_index_or, Option, Some, None}
+use Rattle.std.specs.List.{All, sum_by}
 use mathlib.Core.Option.{some}
 use mathlib.Core.Option as maybe
 use mathlib.Core.List.{IsPrefix}
 use lib.ListN.{get_elem?}
 use Rattle.atomic_table.specs.Table.{State}
 use Rattle.kd_turn.specs.declared.views.Cell.{Cell}
-use Rattle.kd_turn.specs.declared.views.Part.{Part}
-use Rattle.kd_turn.specs.declared.views.View.{View}
-use Rattle.kd_turn.specs.Lists.{made_by, blank, part, hand, with_part, without, is_at, tabled, opening_view}
-use Rattle.kd_turn.specs.World.{World, opened_after}
+use Rattle.kd_hands.specs.declared.views.Part.{Part}
+use Rattle.kd_hands.specs.declared.views.View.{View}
+use Rattle.kd_hands.specs.Lists.{made_by, is_at}
+use Rattle.kd_hands.specs.Views.{blank, part, hand, opening_view, spent}
+use Rattle.kd_hands.specs.World.{World}
+
+-- the slot of a free lock with this value before any turn
+abbrev pub cell_of : {X E : Type 0} → X → Cell X E
+cell_of x = record { value = Some x; entry = None }
+
+-- what lies in the slot of a lock that a pass holds
+abbrev pub hollow : {X E : Type 0} → Cell X E
+hollow = record { value = None; entry = None }
 
 -- what one lock has come to: its list, its next ticket and who drew each one, the pass that holds it, and its mark words
 pub record Lock (E : Type 0) : Type 0 where
@@ -21,55 +31,13 @@ pub record Lock (E : Type 0) : Type 0 where
   pub marks : ℕ → ℕ
 
 module _ {E : Type 0} where
-  -- the view after a ticket was drawn
-  abbrev pub drawn : ℕ → ℕ → View E → View E
-  drawn l n v = record (with_part v l (record (part v l) { ticket = Some n })) { turns = v.turns + 1 }
+  -- what is shown of what the pass j knows, where there are so many passes yet: the last has their count
+  abbrev pub shows : ℕ → ℕ → View E → View E
+  shows count j v = record v { made = cond (j + 1 == count) count 0 }
 
-  -- after it was served, where the lock's list is this one
-  abbrev pub holding : ℕ → List (ℕ × E) → View E → View E
-  holding l list v = with_part v l (record (part v l) { seen = list; holds = true })
-
-  -- what the pass knows of the lock l once it passed it on with the entry e
-  abbrev pub part_passed : ℕ → E → View E → Part E
-  part_passed l e v = record { seen = (part v l).seen ++ (v.name, e) ∷ []; own = (part v l).own ++ (v.name, e) ∷ []; ticket = None; holds = false; swept = [] }
-
-  -- the view after the lock was passed on
-  abbrev pub passed_on : (ℕ → E → (ℕ → List ℕ) → ℕ → List ℕ) → ℕ → E → View E → View E
-  passed_on after l e v =
-      record (with_part v l (part_passed l e v)) { hands = tabled (length v.hands) (after l e (hand v)); opened = opened_after l (v.name, e) (part v 0).holds v.opened }
-
-  -- the view after a number was marked, and after a mark word was swept
-  abbrev pub marked : ℕ → ℕ → View E → View E
-  marked l n v = record (with_part v l (part v l)) { hands = slice_set v.hands l (without n (hand v l)); steps = v.steps + 1 }
-
-  abbrev pub cleared : ℕ → ℕ × ℕ → View E → View E
-  cleared l word v = with_part v l (record (part v l) { swept = (part v l).swept ++ word ∷ [] })
-
-  -- the view of the pass that was made last, which has seen nothing
-  abbrev pub last_view : ℕ → ℕ → View E
-  last_view locks name = record (opening_view locks name) { made = name + 1 }
-
-  -- the two views after a split: the new pass is now the last
-  abbrev pub parent : View E → View E
-  parent v = record v { made = 0 }
-
-  abbrev pub child : View E → View E
-  child v = last_view (length v.parts) v.made
-
-  -- a view that was taken in, and the one that took it in
-  abbrev pub spent : View E
-  spent = record { name = 0; parts = []; hands = []; opened = []; turns = 2 ^ 43; steps = 0; made = 0; live = false; back = [] }
-
-  abbrev pub both : View E → View E → View E
-  both v w = record v { back = (w.name, w.parts) ∷ v.back }
-
-  -- the view u is v, which has taken in these others
-  abbrev pub TakenIn : View E → List (View E) → View E → Type 0
-  TakenIn v others u = u ≡ record v { back = map (λ w. (w.name, w.parts)) others ++ v.back }
-
+  -- how many turns they have taken together
   abbrev pub turns_of : List (View E) → ℕ
-  turns_of [] = 0
-  turns_of (v ∷ vs) = v.turns + turns_of vs
+  turns_of vs = sum_by (λ v. v.turns) vs
 
   -- what is open stands in the view of the pass that holds lock 0
   abbrev pub opened_by : Option ℕ → (ℕ → List (ℕ × ℕ × E)) → List (ℕ × ℕ × E)
@@ -86,16 +54,21 @@ module _ {E : Type 0} where
     swept = λ j l. (part (passes j) l).swept;
   }
 
--- of a gate of n locks and so many passes yet, the pass j knows this
-pub record IsPass {E : Type 0} (n count j : ℕ) (v : View E) : Type 0 where
+-- the state of a gate of n locks, which has so many passes yet and may come to so many
+pub record IsSized {S V : Type 0} (n count most : ℕ) (s : State S V) : Type 0 where
+  pub slots : length s.homes ≡ n
+  pub wide : length s.words ≡ 6 * n
+  pub views : length s.views ≡ count
+  pub few : count ≤ most
+  pub fits : most ≤ 1024
+
+-- of a gate of n locks, the pass j knows this
+pub record IsPass {E : Type 0} (n j : ℕ) (v : View E) : Type 0 where
   pub name : v.name ≡ j
-  pub live : v.live ≡ true
   pub turns : v.turns ≤ 2 ^ 43
   pub parts : length v.parts ≡ n
   pub hands : length v.hands ≡ n
   pub shut : (part v 0).holds ≡ false → v.opened ≡ []
-  -- the pass that was made last is the last
-  pub made : 0 < v.made → (v.made ≡ count) × (j + 1 ≡ count)
 
 -- what the rule says of the pass j at one lock
 pub record SeatOk {E : Type 0} (lock : Lock E) (j : ℕ) (p : Part E) : Type 0 where
@@ -107,18 +80,14 @@ pub record SeatOk {E : Type 0} (lock : Lock E) (j : ℕ) (p : Part E) : Type 0 w
   -- a pass sweeps only what it holds
   pub unswept : p.holds ≡ false → p.swept ≡ []
 
--- the passes that a pass has taken in: they are retired, held nothing, and know what they knew
-abbrev pub IsBack : {E : Type 0} → (ℕ → Bool) → (ℕ → View E) → List (ℕ × List (Part E)) → Type 0
-IsBack {E} retired passes back = (k : ℕ) (b : ℕ × List (Part E)) → get_elem? back k ≡ some b
-    → (retired b.0 ≡ true) × ((passes b.0).parts ≡ b.1) × ((l : ℕ) → (slice_index_or b.1 l blank).holds ≡ false)
+-- a pass that another has taken in: it is retired, held nothing, and knows what it knew
+abbrev pub IsBack : {E : Type 0} → (ℕ → Bool) → (ℕ → View E) → ℕ × List (Part E) → Type 0
+IsBack retired passes b = (retired b.0 ≡ true) × ((passes b.0).parts ≡ b.1) × ((l : ℕ) → (slice_index_or b.1 l blank).holds ≡ false)
 
 module _ {X E : Type 0} (stands : ℕ → List (ℕ × E) → X → Type 0) where
-  -- a value for the list lies in the cell
-  abbrev pub Stands : ℕ → List (ℕ × E) → Cell X E → Type 0
-  Stands l list y = (x : X) × (y.value ≡ Some x) × stands l list x
-
+  -- a cell with a value for the list is at home
   abbrev pub IsHome : ℕ → List (ℕ × E) → List (maybe.Option (Cell X E)) → Type 0
-  IsHome l list homes = (y : Cell X E) × (get_elem? homes l ≡ some (some y)) × Stands l list y
+  IsHome l list homes = (y : Cell X E) × (get_elem? homes l ≡ some (some y)) × (x : X) × (y.value ≡ Some x) × stands l list x
 
   -- what the rule says of the lock l, one of n, where so many turns were taken
   pub record LockOk (n turns : ℕ) (words : List ℕ) (homes : List (maybe.Option (Cell X E))) (l : ℕ) (lock : Lock E) : Type 0 where
@@ -138,14 +107,10 @@ module _ {X E : Type 0} (stands : ℕ → List (ℕ × E) → X → Type 0) wher
       pub retired : ℕ → Bool
       pub many : ℕ
       pub count : ℕ
-      pub slots : length s.homes ≡ many
-      pub wide : length s.words ≡ 6 * many
-      pub views : length s.views ≡ count
-      pub few : count ≤ most
-      pub fits : most ≤ 1024
-      pub shown : (j : ℕ) → slice_index_or s.views j (opening_view many j) ≡ cond (retired j) spent (passes j)
-      pub each_pass : (j : ℕ) → IsPass many count j (passes j)
+      pub sized : IsSized many count most s
+      pub shown : (j : ℕ) → slice_index_or s.views j (opening_view many j) ≡ cond (retired j) spent (shows count j (passes j))
+      pub each_pass : (j : ℕ) → IsPass many j (passes j)
       pub each_seat : (j l : ℕ) → SeatOk (locks l) j (part (passes j) l)
       pub each_lock : (l : ℕ) → l < many → LockOk many (turns_of s.views) s.words s.homes l (locks l)
-      pub back : (j : ℕ) → IsBack retired passes (passes j).back
+      pub back : (j : ℕ) → All (IsBack retired passes) (passes j).back
       pub tied : fact (world_of locks passes)

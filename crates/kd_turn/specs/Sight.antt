@@ -1,7 +1,7 @@
 -- What contracts see of a gate and of a pass.
 use Rattle.std.specs.Prelude.{ℕ, List}
 use Rattle.atomic_table.specs.Seated.{TableId}
-use Rattle.kd_turn.specs.declared.views.View.{View}
+use Rattle.kd_hands.specs.declared.views.View.{View}
 
 -- which gate it is, and how many locks and passes it has
 pub record GateSight : Type 0 where

@@ -1,37 +1,20 @@
--- What each step and each call tells, and what a put owes.
-use Rattle.std.specs.Prelude.{◌≡◌, ◌≢◌, ℕ, ◌+◌, ◌*◌, ◌^◌, ◌<◌, ◌≤◌, true, false, List, [], ◌∷◌, ◌++◌, length, slice_index, Some}
+-- What each step and each call tells, and what is known once a gate is closed.
+use Rattle.std.specs.Prelude.{◌≡◌, ◌≢◌, ℕ, ◌+◌, ◌*◌, ◌/◌, ◌%◌, ◌^◌, ◌<◌, ◌≤◌, true, false, List, [], ◌∷◌, ◌++◌, map, length, slice_index, Some}
 use mathlib.Core.Option.{some}
 use mathlib.Core.List.{IsPrefix}
 use lib.ListN.{get_elem?}
 use Rattle.atomic_table.specs.Table.{Me, Step}
 use Rattle.atomic_table.specs.Seated.{TableId}
 use Rattle.kd_turn.specs.declared.views.Cell.{Cell}
-use Rattle.kd_turn.specs.declared.views.View.{View}
-use Rattle.kd_turn.specs.Lists.{made_by, blank, part, hand, without}
+use Rattle.kd_hands.specs.declared.views.View.{View}
+use Rattle.kd_hands.specs.Lists.{made_by, without}
+use Rattle.kd_hands.specs.Views.{blank, part, hand, drawn, holding, part_passed, passed_on, marked, cleared}
 use Rattle.kd_turn.specs.Sight.{Sight}
-use Rattle.kd_turn.specs.World.{World, entered, opened_after}
-use Rattle.kd_turn.specs.Rule.{drawn, holding, part_passed, passed_on, marked, cleared}
-
--- The world is in keeping with what a pass of this view knows
-pub record Fits {E : Type 0} (v : View E) (w : World E) : Type 0 where
-  pub begins : (k : ℕ) → IsPrefix (part v k).seen (w.told.lists k)
-  pub mine : (k : ℕ) → made_by v.name (w.told.lists k) ≡ (part v k).own
-  -- the list of a lock that it holds is the one that it has seen
-  pub whole : (k : ℕ) → (part v k).holds ≡ true → (part v k).seen ≡ w.told.lists k
-  pub opened : (part v 0).holds ≡ true → (v.opened ≡ w.told.opened) × (w.holder ≡ Some v.name)
-  pub closed : (part v 0).holds ≡ false → w.holder ≢ Some v.name
-  pub hands : (k : ℕ) → hand v k ≡ w.hands v.name k
-  pub swept : (k : ℕ) → (part v k).swept ≡ w.swept v.name k
-  -- what it holds was swept by no other
-  pub sole : (k : ℕ) → (part v k).holds ≡ true → (i : ℕ) → i ≢ v.name → w.swept i k ≡ []
-
--- the fact holds of some world in keeping with this view
-pub record Stood {E : Type 0} (fact : World E → Type 0) (v : View E) : Type 0 where
-  pub world : World E
-  pub fits : Fits v world
-  pub holds : fact world
+use Rattle.kd_hands.specs.Fits.{Stood}
+use Rattle.kd_hands.specs.World.{World, opened_after}
 
 module _ {X E : Type 0} where
+  -- the pass has the ticket that it found
   abbrev pub drew : Step (Cell X E) → Me (Cell X E) (View E) → ℕ → Me (Cell X E) (View E) → Type 0
   drew st m r m' = m' ≡ (drawn st.word r m.0, m.1)
 
@@ -49,6 +32,7 @@ module _ {X E : Type 0} where
   abbrev pub Gained : (ℕ → List (ℕ × E) → X → Type 0) → (World E → Type 0) → ℕ → X → Cell X E → Me (Cell X E) (View E) → Me (Cell X E) (View E) → Type 0
   Gained stands fact l x y m m' = (list : List (ℕ × E)) × (m' ≡ (holding l list m.0, (l, y) ∷ m.1)) × Gains stands fact l m.0 list x
 
+  -- where its ticket is served the pass gains the lock, and else nothing changes
   abbrev pub looked : (ℕ → List (ℕ × E) → X → Type 0) → (World E → Type 0) → Step (Cell X E) → Me (Cell X E) (View E) → ℕ → Me (Cell X E) (View E) → Type 0
   looked stands fact st m r m' = (l : ℕ) → st.word ≡ st.slots + l
       → ((part m.0 l).ticket ≡ Some r → (x : X) × (y : Cell X E) × (y.value ≡ Some x) × Gained stands fact l x y m m') × ((part m.0 l).ticket ≢ Some r → m' ≡ m)
@@ -58,9 +42,9 @@ module _ {X E : Type 0} where
   passed after st m r m' = (l : ℕ) (y : Cell X E) (e : E) (c : List (ℕ × Cell X E)) → st.word ≡ st.slots + l → m.1 ≡ (l, y) ∷ c → y.entry ≡ Some e
       → m' ≡ (passed_on after l e m.0, c)
 
-  -- the number n = 64 q + i is marked, and leaves the hand
+  -- the number is marked, and leaves the hand
   abbrev pub sets_mark : Step (Cell X E) → Me (Cell X E) (View E) → ℕ → Me (Cell X E) (View E) → Type 0
-  sets_mark st m r m' = (l q i : ℕ) → q < 4 → st.word ≡ 2 * st.slots + (4 * l + q) → st.first ≡ 2 ^ i → m' ≡ (marked l (64 * q + i) m.0, m.1)
+  sets_mark st m r m' = (l n : ℕ) → n < 256 → st.word ≡ 2 * st.slots + (4 * l + n / 64) → st.first ≡ 2 ^ (n % 64) → m' ≡ (marked l n m.0, m.1)
 
   -- the marks belong to this turn
   abbrev pub swept_up : Step (Cell X E) → Me (Cell X E) (View E) → ℕ → Me (Cell X E) (View E) → Type 0
@@ -96,10 +80,6 @@ pub record Passed {E : Type 0} (after : ℕ → E → (ℕ → List ℕ) → ℕ
   pub hands : (k : ℕ) → hand v' k ≡ after l e (hand v) k
   pub opened : v'.opened ≡ opened_after l (v.name, e) (part v 0).holds v.opened
 
--- What a put owes: the fact holds again, whatever the world is in which the pass puts its entry
-abbrev pub Owes : {E : Type 0} → (World E → Type 0) → (ℕ → E → (ℕ → List ℕ) → ℕ → List ℕ) → View E → ℕ → E → Type 0
-Owes {E} fact after v l e = (w : World E) → Fits v w → fact w → fact (entered after l v.name e w)
-
 -- a pass that has seen nothing
 pub record IsFresh {E : Type 0} (name : ℕ) (v : View E) : Type 0 where
   pub name_is : v.name ≡ name
@@ -133,8 +113,22 @@ pub record DidSweep {E : Type 0} (l : ℕ) (found : List ℕ) (v v' : View E) : 
   pub name : v'.name ≡ v.name
   pub opened : v'.opened ≡ v.opened
 
+-- a pass of this gate that holds no lock
+abbrev pub IsIdle : {E : Type 0} → TableId → Sight E → Type 0
+IsIdle id p = (p.gate ≡ id) × (p.held ≡ [])
+
+-- The view u is that of the last of these passes, which has taken in the others
+pub record Gathered {E : Type 0} (all : List (Sight E)) (u : View E) : Type 0 where
+  pub rest : List (Sight E)
+  pub last : Sight E
+  pub are : all ≡ rest ++ last ∷ []
+  pub now : u ≡ record last.view { back = map (λ p. (p.view.name, p.view.parts)) rest ++ last.view.back }
+  pub live : last.view.live ≡ true
+  pub idle : (l : ℕ) → (part last.view l).holds ≡ false
+
 -- What is known of the lists once all passes are taken in: `known` is what each of them knew
-pub record Ended {X E : Type 0} (stands : ℕ → List (ℕ × E) → X → Type 0) (fact : World E → Type 0) (passes : ℕ) (known : List (View E)) (values : List X) : Type 0 where
+pub record Ended {X E : Type 0} (stands : ℕ → List (ℕ × E) → X → Type 0) (fact : World E → Type 0) (passes : ℕ)
+    (known : List (View E)) (values : List X) : Type 0 where
   pub world : World E
   -- each value stands for the whole list of its lock
   pub stood : (l : ℕ) (x : X) → get_elem? values l ≡ some x → stands l (world.told.lists l) x

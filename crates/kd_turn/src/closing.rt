@@ -3,10 +3,9 @@ ghost use Rattle.std.specs.Prelude.{◌≡◌, ℕ, ◌<◌, ◌≤◌, List, []
 ghost use Rattle.std.specs.Slots.{IsFull, slots_items, slots_len};
 ghost use mathlib.Core.Option.{some};
 ghost use lib.ListN.{get_elem?};
-ghost use Rattle.kd_turn.specs.Rule.{TakenIn};
 ghost use Rattle.kd_turn.specs.Sight.{Sight};
-ghost use Rattle.kd_turn.specs.Told.{Ended};
-ghost use Rattle.kd_turn.specs.World.{Fact};
+ghost use Rattle.kd_turn.specs.Told.{Ended, Gathered, IsIdle};
+ghost use Rattle.kd_hands.specs.World.{Fact};
 
 use crate::gate::{Board, Gate, SeatOf};
 use crate::pass::Pass;
@@ -16,18 +15,19 @@ use crate::views::{Cell, View};
 use atomic_table::Closed;
 use std::alloc::Global;
 
-/// One seat takes in the passes, which hold nothing.
-fn gathered<T: Standing>(
-    table: &Board<T>,
-    mut first: SeatOf<T>,
-    mut passes: Vec<Pass<T>>,
-) -> SeatOf<T>
-    requires table { (0 < table.now.shared.table_id.words) × (first.table_id ≡ table.now.shared.table_id) }
-    requires first { first.me.0.live ≡ true }
-    requires passes { All (λ p. (p.gate ≡ table.now.shared.table_id) × (p.held ≡ [])) passes.items }
-    ensures seat { (result.table_id ≡ first.table_id) × (result.me.1 ≡ first.me.1) }
-    ensures taken_in { TakenIn first.me.0 (map (λ p. p.view) passes.items) result.me.0 }
+/// The seat of the last pass, which takes in the others. They hold nothing.
+fn gathered<T: Standing>(table: &Board<T>, mut passes: Vec<Pass<T>>) -> SeatOf<T>
+    requires table { 0 < table.now.shared.table_id.words }
+    requires passes { All (IsIdle table.now.shared.table_id) passes.items }
+    requires some { 0 < length passes.items }
+    ensures seat { result.table_id ≡ table.now.shared.table_id }
+    ensures gathered { Gathered passes.items result.me.0 }
 {
+    let Some(last) = passes.pop() else {
+        unreachable!()
+    };
+    let Pass { seat, turns: _ } = last;
+    let mut first = seat;
     'gathering: while let Some(pass) = passes.pop() {
         let Pass { seat, turns: _ } = pass;
         table.shared.join_seat::<Absorb>(&mut first, seat);
@@ -43,7 +43,7 @@ fn emptied<T, E: Drop>(
 ) -> Vec<T>
     requires room { (values.items ≡ []) × (locks ≤ vec_capacity values) }
     requires full { IsFull closed.slots × (slots_len closed.slots ≡ locks) }
-    requires values { (l : ℕ) (y : Cell T E) → l < locks → get_elem? (slots_items closed.slots) l ≡ some y → (x : T) × (y.value ≡ Some x) }
+    requires values { (l : ℕ) (y : Cell T E) → get_elem? (slots_items closed.slots) l ≡ some y → (x : T) × (y.value ≡ Some x) }
     ensures count { length result.items ≡ locks }
     ensures values { (l : ℕ) (x : T) → get_elem? result.items l ≡ some x → (y : Cell T E) × (get_elem? (slots_items closed.slots) l ≡ some y) × (y.value ≡ Some x) }
 {
@@ -60,7 +60,7 @@ impl<T: Standing> Gate<T> {
     pub fn close(
         self,
         alloc: Global,
-        mut passes: Vec<Pass<T>>,
+        passes: Vec<Pass<T>>,
     ) -> Result<Vec<T>, (Gate<T>, Vec<Pass<T>>)>
         requires gate { All (λ p. p.gate ≡ self.id) passes.items }
         requires idle { All (λ p. p.held ≡ []) passes.items }
@@ -73,11 +73,7 @@ impl<T: Standing> Gate<T> {
             return Err((self, passes));
         };
         let Gate { table, locks } = self;
-        let Some(first) = passes.pop() else {
-            unreachable!()
-        };
-        let Pass { seat, turns: _ } = first;
-        let seat = gathered(&table, seat, passes);
+        let seat = gathered(&table, passes);
         let closed = table.close_with(seat);
         Ok(emptied(closed, locks, values))
     }

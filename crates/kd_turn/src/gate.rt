@@ -2,8 +2,8 @@
 ghost use Rattle.std.specs.Prelude.{◌≡◌, ◌≢◌, ℕ, ◌+◌, ◌*◌, ◌^◌, ◌<◌, ◌≤◌, List, [], ◌∷◌, ◌++◌, true, false, None, Some, length, IfOk, vec_capacity, map};
 ghost use mathlib.Core.Option.{some};
 ghost use lib.ListN.{get_elem?};
-ghost use Rattle.kd_turn.specs.Lists.{cell_of, opening_view};
-ghost use Rattle.kd_turn.specs.Rule.{last_view};
+ghost use Rattle.kd_turn.specs.Rule.{cell_of};
+ghost use Rattle.kd_hands.specs.Views.{opening_view, last_view};
 ghost use Rattle.kd_turn.specs.Told.{AreFresh, IsFresh};
 ghost use Rattle.kd_turn.specs.Sight.{Sight};
 
@@ -29,8 +29,9 @@ pub struct Turns<T> {
 
 impl<T: Standing> TableRule<Cell<T, T::Entry>, View<T::Entry>, Size> for Turns<T> {
     ghost use Rattle.std.specs.Prelude.{◌*◌};
-    ghost use Rattle.kd_turn.specs.Rule.{Turning, last_view};
-    ghost use Rattle.kd_turn.specs.World.{Fact};
+    ghost use Rattle.kd_turn.specs.Rule.{Turning};
+    ghost use Rattle.kd_hands.specs.Views.{last_view};
+    ghost use Rattle.kd_hands.specs.World.{Fact};
 
     ghost holds = { λ size. Turning T.stands (Fact T.tie T.lends T.out T.keeper) size.passes };
 
@@ -81,7 +82,7 @@ fn cells_of<X: Drop, E: Drop>(alloc: Global, values: Vec<X>) -> Result<Vec<Cell<
 }
 
 /// The pass of a seat that has seen nothing.
-#[tactic(auto, using(crate::proofs::Changed::all_alike))]
+#[tactic(auto, using(kd_hands::proofs::Lists::all_alike))]
 fn pass_of<T: Standing>(seat: SeatOf<T>) -> Pass<T>
     requires { seat.me ≡ (record (opening_view seat.table_id.slots seat.me.0.name) { made = seat.me.0.made }, []) }
     ensures { (result.gate ≡ seat.table_id) × (result.held ≡ []) × IsFresh seat.me.0.name result.view }

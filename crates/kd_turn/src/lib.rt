@@ -21,7 +21,7 @@
 //! - `standing`: what a value, its list, and the lists of all locks have to do with each other
 //! - `gate` and `closing`: `Gate::make` and `Gate::close`
 //! - `pass`: `Pass::take`, `put`, `mark`, `sweep`, `turns`
-//! - `views`: what a pass knows, of which no value is made
+//! - `views`: what lies behind a lock; what a pass knows is a view of `kd_hands`
 #![tactic(auto)]
 
 mod closing;

@@ -1,9 +1,12 @@
 //! A pass, and what a thread does with it: take a turn, put the value back, mark a number, sweep the marks.
 ghost use Rattle.std.specs.Prelude.{◌≡◌, ℕ, ◌+◌, ◌*◌, ◌/◌, ◌^◌, ◌<◌, ◌≤◌, List, [], ◌∷◌, ◌++◌, true, false, None, Some, IfSome, length};
-ghost use Rattle.kd_turn.specs.Lists.{part, hand, has, hollow};
-ghost use Rattle.kd_turn.specs.Rule.{cleared, drawn, marked};
-ghost use Rattle.kd_turn.specs.Told.{DidSweep, Gained, Marked, Owes, Passed, Took};
-ghost use Rattle.kd_turn.specs.World.{Fact, hands_after};
+ghost use Rattle.kd_hands.specs.Views.{part, hand, cleared, drawn, marked, passed_on};
+ghost use Rattle.kd_turn.specs.Rule.{hollow};
+ghost use Rattle.kd_hands.specs.Lists.{has};
+ghost use Rattle.atomic_table.specs.Table.{rest};
+ghost use Rattle.kd_turn.specs.Told.{DidSweep, Gained, Marked, Passed, Took};
+ghost use Rattle.kd_hands.specs.Fits.{Owes};
+ghost use Rattle.kd_hands.specs.World.{Fact, hands_after};
 
 use crate::gate::{Gate, SeatOf};
 use crate::plays::{Draw, Look, Mark, PassOn, Sweep};
@@ -85,6 +88,27 @@ fn look<T: Standing>(gate: &Gate<T>, seat: &mut SeatOf<T>, lock: u32, ticket: u6
     value
 }
 
+/// Lays the value and the entry into the slot of the lock that was taken last, and passes the lock on.
+fn pass_on<T: Standing>(gate: &Gate<T>, seat: &mut SeatOf<T>, lock: u32, value: T, entry: T::Entry)
+    requires gate { seat.old.table_id ≡ gate.now.id }
+    requires lock { lock < gate.now.locks }
+    requires live { seat.old.me.0.live ≡ true }
+    requires held { ((part seat.old.me.0 lock).holds ≡ true) × (seat.old.me.1 ≡ (lock, hollow) ∷ rest seat.old.me.1) }
+    requires stands { T.stands lock ((part seat.old.me.0 lock).seen ++ (seat.old.me.0.name, entry) ∷ []) value }
+    requires tie { Owes (Fact T.tie T.lends T.out T.keeper) (hands_after T.hand_after T.empties) seat.old.me.0 lock entry }
+    ensures gate { seat.new.table_id ≡ seat.old.table_id }
+    ensures passed { seat.new.me ≡ (passed_on (hands_after T.hand_after T.empties) lock entry seat.old.me.0, rest seat.old.me.1) }
+{
+    let shared = &gate.table.shared;
+    let full = Cell {
+        value: Some(value),
+        entry: Some(entry),
+    };
+    let Cell { value, entry: _ } = shared.exchange(seat, lock as usize, full);
+    let None = value else { unreachable!() };
+    shared.fetch_add::<PassOn<T>>(seat, gate.locks as usize + lock as usize, 1);
+}
+
 /// Sets the bit of a number in the mark words of a lock.
 fn set_mark<T: Standing>(gate: &Gate<T>, seat: &mut SeatOf<T>, lock: u32, number: u32)
     requires gate { seat.old.table_id ≡ gate.now.id }
@@ -157,14 +181,7 @@ impl<T: Standing> Pass<T> {
         ensures held { self.old.held ≡ lock ∷ self.new.held }
         ensures passed { Passed (hands_after T.hand_after T.empties) lock entry self.old.view self.new.view }
     {
-        let shared = &gate.table.shared;
-        let full = Cell {
-            value: Some(value),
-            entry: Some(entry),
-        };
-        let Cell { value, entry: _ } = shared.exchange(&mut self.seat, lock as usize, full);
-        let None = value else { unreachable!() };
-        shared.fetch_add::<PassOn<T>>(&mut self.seat, gate.locks as usize + lock as usize, 1);
+        pass_on(gate, &mut self.seat, lock, value, entry);
     }
 
     /// Marks a number of the pass's hand, in one step and without waiting. Number k is bit k mod 64 of word k / 64 of the lock's four.

@@ -1,7 +1,7 @@
 //! What a locked value stands for.
 ghost use Rattle.std.specs.Prelude.{ℕ, List};
 ghost use Rattle.std.specs.declared.option.Option.{Option};
-ghost use Rattle.kd_turn.specs.World.{Histories};
+ghost use Rattle.kd_hands.specs.World.{Histories};
 
 /// The values behind the locks of one gate. Each lock has a list of entries, which exists in the proofs alone: every turn
 /// on the lock ends it with one entry. A list has each entry with the number of the pass that made it. The members say what

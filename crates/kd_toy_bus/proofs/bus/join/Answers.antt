@@ -1,7 +1,7 @@
 use Rattle.std.specs.Prelude.{None}
 use Rattle.std.proofs.Common.{◌≡◌, ℕ, suc, ◌+◌, ◌≢◌, true, false, cond, set, get_or, eq-eqb, [], ◌∷◌, ◌++◌, refl, sym, ap, subst, ◌∙◌, arith, slice_index}
-use Rattle.kd_turn.specs.Lists.{part}
-use Rattle.kd_turn.specs.World.{Fact, hands_after}
+use Rattle.kd_hands.specs.Views.{part}
+use Rattle.kd_hands.specs.World.{Fact, hands_after}
 use Rattle.kd_toy_bus.specs.declared.act.Act.TheVariants.{Join, Raise}
 use Rattle.kd_toy_bus.specs.declared.locked.Locked.TheVariants as locked
 use Rattle.kd_toy_bus.specs.Bus.{Tie, raised, stands, lends, out, keeper, hand_after, empties, keeps, kept_from, pool_after, pool_of, is_seated, sits, made_by_one}

@@ -1,6 +1,6 @@
 use Rattle.std.proofs.Common.{◌≡◌, ℕ, suc, ◌+◌, ◌≢◌, sym, ap, ◌∙◌, arith}
-use Rattle.kd_turn.specs.Lists.{part}
-use Rattle.kd_turn.specs.World.{Fact, hands_after}
+use Rattle.kd_hands.specs.Views.{part}
+use Rattle.kd_hands.specs.World.{Fact, hands_after}
 use Rattle.kd_toy_bus.specs.declared.act.Act.TheVariants.{Receive}
 use Rattle.kd_toy_bus.specs.declared.locked.Locked.TheVariants as locked
 use Rattle.kd_toy_bus.specs.Bus.{Tie, stands, lends, out, keeper, hand_after, empties, received, pool_after, pool_of, is_seated}

@@ -1,6 +1,7 @@
 use Rattle.std.proofs.Common.{ap, ◌∙◌}
-use Rattle.kd_turn.specs.Lists.{has, hand}
-use Rattle.kd_turn.proofs.Hands.{gone_from}
+use Rattle.kd_hands.specs.Lists.{has}
+use Rattle.kd_hands.specs.Views.{hand}
+use Rattle.kd_hands.proofs.Hands.{gone_from}
 use Rattle.kd_toy_bus.proofs.count.given_back.Goals as goal
 
 pub returns-clause-gone : goal.returns-clause-gone

@@ -1,5 +1,5 @@
 use Rattle.std.proofs.Common.{◌≡◌, ◌+◌, length}
-use Rattle.kd_turn.specs.Lists.{part}
+use Rattle.kd_hands.specs.Views.{part}
 use Rattle.kd_toy_bus.specs.Bus.{IsIdle}
 use Rattle.kd_toy_bus.proofs.run.receives.Given as goal
 

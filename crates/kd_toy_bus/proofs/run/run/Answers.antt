@@ -1,5 +1,5 @@
 use Rattle.std.proofs.Common.{◌≡◌, ℕ, ◌+◌, length, ap, ◌∙◌, arith}
-use Rattle.kd_turn.specs.Lists.{part}
+use Rattle.kd_hands.specs.Views.{part}
 use Rattle.kd_toy_bus.proofs.Runs.{all_told}
 use Rattle.kd_toy_bus.proofs.run.run.Goals as goal
 

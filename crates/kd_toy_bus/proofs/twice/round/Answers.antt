@@ -1,7 +1,7 @@
 use Rattle.std.proofs.Common.{◌≡◌, ℕ, true, [], ◌∷◌, length, ap, ◌∙◌, arith, length-append}
 use mathlib.Core.Logic.{dite}
 use native.Mathlib.Decide.{ℕ_discrete}
-use Rattle.kd_turn.specs.Lists.{part}
+use Rattle.kd_hands.specs.Views.{part}
 use Rattle.kd_toy_bus.proofs.Chains.{put_back}
 use Rattle.kd_toy_bus.proofs.Twins.{inner_owes, outer_owes, others, longer}
 use Rattle.kd_toy_bus.proofs.twice.round.Goals as goal

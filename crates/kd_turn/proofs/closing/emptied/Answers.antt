@@ -2,7 +2,7 @@ use Rattle.std.proofs.Common.{◌≡◌, ℕ, ◌+◌, ◌<◌, Bool, false, Lis
 use Rattle.std.specs.Slots.{slots_items, slots_filled}
 use lib.ListN.{get_elem?}
 use Rattle.kd_turn.specs.declared.views.Cell.{Cell}
-use Rattle.kd_turn.proofs.Changed.{each_set, snoc_at}
+use Rattle.kd_hands.proofs.Lists.{each_set, snoc_at}
 use Rattle.kd_turn.proofs.closing.emptied.Goals as goal
 
 pub emptying-preserved : goal.emptying-preserved
@@ -23,7 +23,7 @@ emptying-preserved g c =
       (λ k le near. ap (λ (fs : List Bool). get_or fs k false) now
           ∙ (get_or-set_other filled lock k false false (λ z. omega arith) ∙ inv.4 k (omega arith) (omega arith))),
       (λ k below. ap (λ (fs : List Bool). get_or fs k false) now
-          ∙ each_set filled lock false false (omega arith) (λ k x. k < lock + 1 → x ≡ false) (λ _. refl) (λ k ne lt. inv.5 k (omega arith)) k below),
+          ∙ each_set filled lock false (λ _. false) (omega arith) (λ k x. k < lock + 1 → x ≡ false) (λ _. refl) (λ k ne lt. inv.5 k (omega arith)) k below),
       (λ k x e. ⊎_elim
           (λ h. inv.6 k x h)
           (λ h. (

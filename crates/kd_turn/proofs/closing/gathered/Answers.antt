@@ -1,42 +1,42 @@
-use Rattle.std.proofs.Common.{◌≡◌, List, [], ◌∷◌, ◌++◌, ap, ◌∙◌, append_assoc}
+use Rattle.std.proofs.Common.{◌≡◌, ℕ, false, [], ◌∷◌, ◌++◌, refl, sym, ap, ◌∙◌, append_assoc}
 use Rattle.std.specs.Prelude.{Some}
 use Rattle.std.proofs.lemmas.List.Elements.{All-pop}
-use Rattle.kd_turn.specs.Rule.{both}
-use Rattle.kd_turn.specs.Sight.{Sight}
-use Rattle.kd_turn.specs.World.{Fact}
-use Rattle.kd_turn.proofs.Made.{joins, holds_nothing}
+use Rattle.kd_hands.specs.Views.{part, both}
+use Rattle.kd_turn.specs.Told.{Gathered, IsIdle}
+use Rattle.kd_turn.proofs.Made.{joins}
+use Rattle.kd_turn.proofs.Tells.{holds_nothing}
 use Rattle.kd_turn.proofs.closing.gathered.Goals as goal
+
+pub gathering-init : goal.gathering-init
+gathering-init g c =
+    let p = c.in-Some.last in
+    let free = IsIdle {E = g.row.T-Entry.Denot} c.args.table.now.shared.table_id in
+    let all = All-pop free c.args.passes.items c.pop.new.self.items (Some p) c.in-Some.ensures.items c.requires.passes in
+    let nothing = holds_nothing c.last.inside.turns _ c.last.inside.seat.me c.last.invariant (ap (λ q. q.held) c.last.view_is ∙ all.1.1) in
+    let view = ap (λ q. q.view) c.last.view_is in
+    let live = ap (λ v. v.live) (sym view) ∙ c.last.invariant.live in
+    let idle : (l : ℕ) → (part p.view l).holds ≡ false = λ l. ap (λ v. (part v l).holds) (sym view) ∙ nothing.1 l in
+    let now : Gathered (p ∷ []) c.last.inside.seat.me.0 = record { rest = []; last = p; are = refl; now = view; live = live; idle = idle } in
+    (ap (λ q. q.gate) c.last.view_is ∙ all.1.0, all.0, (p ∷ [], c.in-Some.ensures.items, now))
 
 pub join_seat-requires : goal.join_seat-requires
 join_seat-requires g c =
-    let S = g.T.Standing in
     let inv = c.gathering.invariant in
-    let all = All-pop (λ (p : Sight g.row.T-Entry.Denot).
-    (p.gate ≡ c.args.table.now.shared.table_id) × (p.held ≡ [])) c.gathering.passes.items c.pop.new.self.items
-    (Some c.in-Some.pass) c.in-Some.ensures.items inv.2 in
-    let nothing = holds_nothing c.pass.inside.turns _ c.pass.inside.seat.me c.pass.invariant (ap (λ q. q.held) c.pass.view_is ∙ all.1.1) in (
-      inv.0 ∙ c.requires.table.1,
-      ap (λ q. q.gate) c.pass.view_is ∙ all.1.0,
-      nothing.0,
-      c.requires.table.0,
-      joins S.stands (Fact S.tie S.lends S.out S.keeper) c.args.table.now.shared.key.passes c.gathering.first.id c.pass.inside.seat.id c.gathering.first.me.0 c.pass.inside.seat.me.0
-          (ap (λ v. v.live) inv.3.2 ∙ c.requires.first) c.pass.invariant.live nothing.1,
-    )
+    let free = IsIdle {E = g.row.T-Entry.Denot} c.args.table.now.shared.table_id in
+    let all = All-pop free c.gathering.passes.items c.pop-in-gathering.new.self.items (Some c.in-Some-pop.pass) c.in-Some-pop.ensures.items inv.1 in
+    let nothing = holds_nothing c.pass.inside.turns _ c.pass.inside.seat.me c.pass.invariant (ap (λ q. q.held) c.pass.view_is ∙ all.1.1) in
+    let law = joins _ _ _ _ _ _ _ (ap (λ v. v.live) inv.2.2.now ∙ inv.2.2.live) c.pass.invariant.live nothing.1 in
+    (inv.0, ap (λ q. q.gate) c.pass.view_is ∙ all.1.0, nothing.0, c.requires.table, law)
 
 pub gathering-preserved : goal.gathering-preserved
 gathering-preserved g c =
+    let p = c.in-Some-pop.pass in
     let inv = c.gathering.invariant in
-    let all = All-pop (λ (p : Sight g.row.T-Entry.Denot).
-    (p.gate ≡ c.args.table.now.shared.table_id) × (p.held ≡ [])) c.gathering.passes.items c.pop.new.self.items
-    (Some c.in-Some.pass) c.in-Some.ensures.items inv.2 in
-    let now = c.join_seat.ensures.2 in
-    let done : List (Sight g.row.T-Entry.Denot) = inv.3.0 in (
-      c.join_seat.ensures.0 ∙ inv.0,
-      ap (λ q. q.1) now ∙ inv.1,
-      all.0,
-      (
-        c.in-Some.pass ∷ done,
-        inv.3.1 ∙ (ap (λ xs. xs ++ done) c.in-Some.ensures.items ∙ append_assoc c.pop.new.self.items (c.in-Some.pass ∷ []) done),
-        ap (λ q. q.0) now ∙ (λ i. both (inv.3.2 i) (c.pass.view_is i).view),
-      ),
-    )
+    let old = inv.2.2 in
+    let free = IsIdle {E = g.row.T-Entry.Denot} c.args.table.now.shared.table_id in
+    let all = All-pop free c.gathering.passes.items c.pop-in-gathering.new.self.items (Some p) c.in-Some-pop.ensures.items inv.1 in
+    let are = inv.2.1 ∙ (ap (λ xs. xs ++ inv.2.0) c.in-Some-pop.ensures.items ∙ append_assoc c.pop-in-gathering.new.self.items (p ∷ []) inv.2.0) in
+    let now = ap (λ q. q.0) c.join_seat.ensures.2 ∙ (λ i. both (old.now i) (c.pass.view_is i).view) in
+    let new : Gathered (p ∷ inv.2.0) c.join_seat.new.seat.me.0 =
+    record { rest = p ∷ old.rest; last = old.last; are = ap (p ∷◌) old.are; now = now; live = old.live; idle = old.idle } in
+    (c.join_seat.ensures.0 ∙ inv.0, all.0, (p ∷ inv.2.0, are, new))

@@ -1,5 +1,5 @@
 use Rattle.std.proofs.Common.{◌≡◌, map}
-use Rattle.kd_turn.specs.Lists.{cell_of}
+use Rattle.kd_turn.specs.Rule.{cell_of}
 use Rattle.kd_turn.proofs.gate.cells_of.Given as goal
 
 abbrev pub invariant-filling : goal.invariant-filling

@@ -1,13 +1,11 @@
-use Rattle.std.proofs.Common.{◌≡◌, ℕ, ◌+◌, List, [], ◌∷◌, ◌++◌, length, subst, sym, ap, ◌∙◌, ⊎_elim, arith, length-append}
+use Rattle.std.proofs.Common.{◌≡◌, ℕ, ◌+◌, ◌<◌, List, [], ◌∷◌, ◌++◌, length, subst, sym, ap, ◌∙◌, ⊎_elim, arith, length-append}
 use Rattle.std.proofs.lemmas.List.{length-replicate}
 use lib.ListN.{get_elem?}
 use Rattle.atomic_table.specs.Seated.{TableId}
-use Rattle.kd_turn.specs.Lists.{blank}
-use Rattle.kd_turn.specs.Rule.{last_view}
+use Rattle.kd_hands.specs.Views.{blank, last_view}
 use Rattle.kd_turn.specs.Sight.{Sight}
 use Rattle.kd_turn.specs.Told.{AreFresh, IsFresh}
-use Rattle.kd_turn.specs.World.{Fact}
-use Rattle.kd_turn.proofs.Changed.{snoc_at}
+use Rattle.kd_hands.proofs.Lists.{snoc_at}
 use Rattle.kd_turn.proofs.Made.{splits}
 use Rattle.kd_turn.proofs.gate.spread.Goals as goal
 
@@ -19,15 +17,12 @@ one_more {E} id all more s name is old gate held fresh at k t e = ⊎_elim (λ h
 
 pub split_seat-next-requires : goal.split_seat-next-requires
 split_seat-next-requires g c =
-    let S = g.T.Standing in
     let inv = c.making.invariant in
     let most = ap (λ q. q.passes) c.gate.view_is in
-    let made : c.making.last.me.0.made ≡ length c.making.all.items + 1 = ap (λ q. q.0.made) inv.3 in (
-      inv.2 ∙ sym (ap (λ q. q.id) c.gate.view_is),
-      omega arith,
-      splits S.stands (Fact S.tie S.lends S.out S.keeper) c.gate.inside.table.shared.key.passes c.making.last.id c.making.last.me.0 (ap (λ q. q.0.live) inv.3)
-          (omega arith) (omega arith),
-    )
+    let made : c.making.last.me.0.made ≡ length c.making.all.items + 1 = ap (λ q. q.0.made) inv.3 in
+    let some : 0 < c.making.last.me.0.made = omega arith in
+    let room : c.making.last.me.0.made < c.gate.inside.table.shared.key.passes = omega arith in
+    (inv.2 ∙ sym (ap (λ q. q.id) c.gate.view_is), omega arith, splits _ _ _ _ _ (ap (λ q. q.0.live) inv.3) some room)
 
 pub making-preserved : goal.making-preserved
 making-preserved g c =

@@ -1,5 +1,5 @@
 use Rattle.std.proofs.Common.{◌≡◌, ◌+◌, ◌≤◌, [], length, vec_capacity}
-use Rattle.kd_turn.specs.Rule.{last_view}
+use Rattle.kd_hands.specs.Views.{last_view}
 use Rattle.kd_turn.specs.Told.{AreFresh}
 use Rattle.kd_turn.proofs.gate.spread.Given as goal
 

@@ -1,22 +1,30 @@
 -- What a turn, a mark, a sweep and an entry do to the point on hands.
-use Rattle.std.proofs.Common.{◌≡◌, ℕ, ◌/◌, ◌%◌, ◌^◌, ◌<◌, ◌≢◌, ◌⊎◌, ◌&&◌, ◌||◌, ◌==◌, not, Bool, true, false, cond, List, [], ◌∷◌, ◌++◌, eqb-true, eq-eqb, ne_eqb, subst, sym, refl, ap, ◌∙◌, inl, inr, ⊎_elim, arith}
+use Rattle.std.proofs.Common.{◌≡◌, ℕ, ◌*◌, ◌/◌, ◌%◌, ◌^◌, ◌<◌, ◌≢◌, ◌⊎◌, ◌&&◌, ◌||◌, ◌==◌, not, Bool, true, false, cond, List, [], ◌∷◌, ◌++◌, eqb-true, eq-eqb, ne_eqb, subst, sym, refl, ap, ◌∙◌, inl, inr, ⊎_elim, arith}
 use Rattle.std.specs.Prelude.{Option, Some, None, nat_lt}
 use Rattle.std.specs.Int.{bit_at}
 use Rattle.std.proofs.lemmas.Nat.Bits.{bit_at_or, bit_at-zero, bit_at-lt, bit_at-pow_same, bit_at-pow_other}
 use Rattle.std.proofs.lemmas.Bool.{lt-ltb}
 use Rattle.std.proofs.lemmas.List.Folds.{list_any-append}
 use Rattle.std.proofs.lemmas.Map.Views.{any-filter_same}
+use Rattle.std.proofs.lemmas.Nat.{pow_below}
+use native.Mathlib.Nat.{mod-eq_of_lt}
 use mathlib.Core.Logic.{dite}
 use native.Mathlib.Decide.{ℕ_discrete}
-use Rattle.kd_turn.specs.Lists.{has, without, has_bit, is_marked, was_swept, is_word_of, at_place, part, is_at}
-use Rattle.kd_turn.specs.World.{World, Handed, opening_world, taken, entered, hands_after}
-use Rattle.kd_turn.proofs.Passes.{more, marked_in, swept_in, both_here, both_else, row_else}
-use Rattle.kd_turn.proofs.Changed.{every, place_here, place_else, true_or_not, not_both}
-use Rattle.kd_turn.specs.declared.views.View.{View}
-use Rattle.kd_turn.specs.Told.{Fits}
+use Rattle.kd_hands.specs.Lists.{has, without, has_bit, is_marked, was_swept, is_word_of, at_place, is_at}
+use Rattle.kd_hands.specs.World.{World, Handed, opening_world, taken, with_mark, marked_in, swept_in, entered, hands_after}
+use Rattle.kd_hands.specs.Settles.{Settles, Unlent}
+use Rattle.kd_hands.proofs.Places.{every, place_here, place_else, both_here, true_or_not, not_both}
+use Rattle.kd_hands.proofs.Entries.{lists_here, lists_else, mine_here, others, swept_else, unswept}
 
 and_false : (a : Bool) → (a && false) ≡ false
 and_false a = grind arith
+
+-- the bit of a number in its word
+pub same_power : (n m : ℕ) → 2 ^ n ≡ 2 ^ m → n ≡ m
+same_power n m e = let a = bit_at-pow_same m in let b = bit_at-pow_other n m in grind arith
+
+pub bit_is : (n : ℕ) → n < 64 → (1 * 2 ^ n) % 2 ^ 64 ≡ 2 ^ n
+bit_is n h = let p : 2 ^ n < 2 ^ 64 = pow_below n 64 h in let one : 1 * 2 ^ n ≡ 2 ^ n = omega arith in ap (λ (k : ℕ). k % 2 ^ 64) one ∙ mod-eq_of_lt p
 
 -- the hand without a number
 has_without : (a n : ℕ) (hand : List ℕ) → has a (without n hand) ≡ (not (a == n) && has a hand)
@@ -30,14 +38,14 @@ kept_in a n hand ne = has_without a n hand ∙ ap (λ b. not b && has a hand) (n
 
 -- the words after the number n is marked
 module _ (words : ℕ → ℕ) (n : ℕ) where
-  marks_it : n < 256 → is_marked n (more words n) ≡ true
+  marks_it : n < 256 → is_marked n (with_mark n words) ≡ true
   marks_it small =
       let w : ℕ = words (n / 64) in
       let i : ℕ = n % 64 in
       let a = bit_at_or w (2 ^ i) i in let b = bit_at-pow_same i in let c = bit_at-lt w i in
       grind arith
 
-  marks_else : (b : ℕ) → b ≢ n → is_marked b (more words n) ≡ is_marked b words
+  marks_else : (b : ℕ) → b ≢ n → is_marked b (with_mark n words) ≡ is_marked b words
   marks_else b ne =
       let a = bit_at_or (words (n / 64)) (2 ^ (n % 64)) (b % 64) in
       let c : n % 64 ≢ b % 64 → bit_at (2 ^ (n % 64)) (b % 64) ≡ 0 = λ apart. bit_at-pow_other (n % 64) (b % 64) (λ z. apart (sym z)) in
@@ -171,91 +179,53 @@ opening_hands lends out keeper none_out =
     let unmarked : (n : ℕ) → is_marked n (λ _. 0) ≡ false = λ n. let z = bit_at-zero (n % 64) in grind arith in
     search (arith, none_out, unmarked)
 
--- What the pass of the view v shows of the lock l, where it puts the entry e on it
-pub record Settles {E : Type 0} (lends out : ℕ → List (ℕ × E) → ℕ → Type 0) (keeper : ℕ → List (ℕ × E) → Option ℕ) (after : ℕ → E → List ℕ → List ℕ) (l : ℕ)
-    (e : E) (v : View E) (w : World E) : Type 0 where
-  -- what is in its new hand, in another's, or marked, is lent
-  pub lent : (n : ℕ) → has n (after l e (w.hands v.name l)) ≡ true → lends l (w.told.lists l ++ (v.name, e) ∷ []) n
-  pub lent_others : (i n : ℕ) → i ≢ v.name → has n (w.hands i l) ≡ true → lends l (w.told.lists l ++ (v.name, e) ∷ []) n
-  pub lent_mark : (n : ℕ) → is_marked n (w.marks l) ≡ true → lends l (w.told.lists l ++ (v.name, e) ∷ []) n
-  pub kept : (n : ℕ) → has n (after l e (w.hands v.name l)) ≡ true → keeper l (w.told.lists 0) ≡ Some v.name
-  -- what is out is in one of these, and in no two
-  pub found : (n : ℕ) → out l (w.told.lists l ++ (v.name, e) ∷ []) n
-      → (has n (after l e (w.hands v.name l)) ≡ true) ⊎ (((i : ℕ) × (i ≢ v.name) × (has n (w.hands i l) ≡ true)) ⊎ (is_marked n (w.marks l) ≡ true))
-  pub once : (n : ℕ) → out l (w.told.lists l ++ (v.name, e) ∷ []) n → is_marked n (w.marks l) ≡ true
-      → (has n (after l e (w.hands v.name l)) ≡ false) × ((i : ℕ) → i ≢ v.name → has n (w.hands i l) ≡ false)
-
 module _ {E : Type 0} (lends out : ℕ → List (ℕ × E) → ℕ → Type 0) (keeper : ℕ → List (ℕ × E) → Option ℕ) (after : ℕ → E → List ℕ → List ℕ)
-    (empties : E → Option ℕ) (l : ℕ) (e : E) (v : View E) (w : World E)
-    (fits : Fits v w) (held : (part v l).holds ≡ true) (h : Handed lends out keeper w) where
+    (empties : E → Option ℕ) (l : ℕ) (e : E) (j : ℕ) (w : World E) (h : Handed lends out keeper w)
+    (sole : (i : ℕ) → i ≢ j → w.swept i l ≡ []) (far : l ≢ 0) where
+  abbrev hs : ℕ → E → (ℕ → List ℕ) → ℕ → List ℕ
+  hs = hands_after after empties
+
   abbrev w' : World E
-  w' = entered (hands_after after empties) l v.name e w
+  w' = entered hs l j e w
 
-  abbrev list' : List (ℕ × E)
-  list' = w.told.lists l ++ (v.name, e) ∷ []
+  hands_else : (i k : ℕ) → k ≢ l → w'.hands i k ≡ w.hands i k
+  hands_else i k ne = grind arith
 
-  pub lists_here : w'.told.lists l ≡ list'
-  lists_here = place_here w.told.lists l l list' refl
+  -- an entry on another lock than lock 0
+  pub settled : Settles lends out keeper after l e j w → Handed lends out keeper w'
+  settled s = handed lends out keeper w' (λ k n. dite (ℕ_discrete k l)
+      (λ z. subst (λ (k : ℕ). Number lends out keeper w' k n) (sym z)
+      (subst (λ (q : List (ℕ × E) × List (ℕ × E)). Placed (lends l q.0 n) (out l q.0 n) (keeper l q.1) w'.holder (λ i. has n (w'.hands i l))
+      (λ i. was_swept n (w'.swept i l)) (λ i. is_word_of n (w'.swept i l)) (is_marked n (w.marks l)))
+      (λ t. (sym (lists_here hs l j e w) t, sym (lists_else hs l j e w 0 (λ q. far (sym q))) t)) record {
+        lent = by (λ i x. has n x ≡ true → lends l (w.told.lists l ++ (j, e) ∷ []) n) (s.lent n) (λ i ne. s.lent_others i n ne);
+        lent_mark = s.lent_mark n;
+        kept = by (λ i x. has n x ≡ true → keeper l (w.told.lists 0) ≡ Some i) (s.kept n) (λ i _. h.kept i l n);
+        found = λ o. ⊎_elim (λ a. inl (j, ap (has n) (mine_here after empties l j e w) ∙ a))
+            (λ b. ⊎_elim (λ a. inl (a.0, ap (has n) (others hs l j e w a.0 l a.1) ∙ a.2)) (λ m. inr (inl m)) b) (s.found n o);
+        once = by (λ i x. out l (w.told.lists l ++ (j, e) ∷ []) n → is_marked n (w.marks l) ≡ true → has n x ≡ false)
+            (λ o m. (s.once n o m).0) (λ i ne o m. (s.once n o m).1 i ne);
+        gone = λ i _ q. absurd (not_both (was_swept n (w'.swept i l)) q (ap (was_swept n) (unswept hs l j e w sole i)));
+        clear = λ i _ _ q. absurd (not_both (is_word_of n (w'.swept i l)) q (ap (is_word_of n) (unswept hs l j e w sole i)));
+      }))
+      (λ ne. stays lends out keeper w w' k n (sym (lists_else hs l j e w k ne)) (sym (lists_else hs l j e w 0 (λ q. far (sym q))))
+      (sym (ap (λ b. cond b None w.holder) (ne_eqb l 0 far)))
+      (λ i. ap (has n) (sym (hands_else i k ne))) (λ i. ap (was_swept n) (sym (swept_else hs l j e w i k ne)))
+      (λ i. ap (is_word_of n) (sym (swept_else hs l j e w i k ne))) refl
+      (number lends out keeper w h k n)))
+    where
+      by : (P : ℕ → List ℕ → Type 0) → P j (after l e (w.hands j l)) → ((i : ℕ) → i ≢ j → P i (w.hands i l)) → (i : ℕ) → P i (w'.hands i l)
+      by P here else = every (λ i f. P i (f l)) w.hands j (hs l e (w.hands j))
+          (subst (P j) (sym (ap (λ b. cond b (after l e (w.hands j l)) (cond ((l == 0) && is_at l (empties e)) [] (w.hands j l)))
+          (eq-eqb l l refl))) here) else
 
-  pub lists_else : (k : ℕ) → k ≢ l → w'.told.lists k ≡ w.told.lists k
-  lists_else k ne = place_else w.told.lists l k list' ne
-
-  pub mine_here : w'.hands v.name l ≡ after l e (w.hands v.name l)
-  mine_here = grind arith
-
-  pub others : (i k : ℕ) → i ≢ v.name → w'.hands i k ≡ w.hands i k
-  others = row_else w.hands v.name (hands_after after empties l e (w.hands v.name))
-
-  pub swept_else : (i k : ℕ) → k ≢ l → w'.swept i k ≡ w.swept i k
-  swept_else i k ne = both_else w.swept v.name l [] i k (λ _ z. ne z)
-
-  -- nothing of the lock is swept any more
-  pub unswept : (i : ℕ) → w'.swept i l ≡ []
-  unswept = every (λ i f. f l ≡ []) w.swept v.name (at_place (w.swept v.name) l []) (place_here (w.swept v.name) l l [] refl) (λ i ne. fits.sole l held i ne)
-
-  module _ (far : l ≢ 0) where
-    hands_else : (i k : ℕ) → k ≢ l → w'.hands i k ≡ w.hands i k
-    hands_else i k ne = grind arith
-
-    -- an entry on another lock than lock 0
-    pub settled : Settles lends out keeper after l e v w → Handed lends out keeper w'
-    settled s = handed lends out keeper w' (λ k n. dite (ℕ_discrete k l)
-        (λ z. subst (λ (k : ℕ). Number lends out keeper w' k n) (sym z)
-        (subst (λ (q : List (ℕ × E) × List (ℕ × E)). Placed (lends l q.0 n) (out l q.0 n) (keeper l q.1) w'.holder (λ i. has n (w'.hands i l))
-        (λ i. was_swept n (w'.swept i l)) (λ i. is_word_of n (w'.swept i l)) (is_marked n (w.marks l)))
-        (λ t. (sym lists_here t, sym (lists_else 0 (λ q. far (sym q))) t)) record {
-          lent = by (λ i x. has n x ≡ true → lends l list' n) (s.lent n) (λ i ne. s.lent_others i n ne);
-          lent_mark = s.lent_mark n;
-          kept = by (λ i x. has n x ≡ true → keeper l (w.told.lists 0) ≡ Some i) (s.kept n) (λ i _. h.kept i l n);
-          found = λ o. ⊎_elim (λ a. inl (v.name, ap (has n) mine_here ∙ a))
-              (λ b. ⊎_elim (λ a. inl (a.0, ap (has n) (others a.0 l a.1) ∙ a.2)) (λ m. inr (inl m)) b) (s.found n o);
-          once = by (λ i x. out l list' n → is_marked n (w.marks l) ≡ true → has n x ≡ false) (λ o m. (s.once n o m).0) (λ i ne o m. (s.once n o m).1 i ne);
-          gone = λ i _ q. absurd (not_both (was_swept n (w'.swept i l)) q (ap (was_swept n) (unswept i)));
-          clear = λ i _ _ q. absurd (not_both (is_word_of n (w'.swept i l)) q (ap (is_word_of n) (unswept i)));
-        }))
-        (λ ne. stays lends out keeper w w' k n (sym (lists_else k ne)) (sym (lists_else 0 (λ q. far (sym q))))
-        (sym (ap (λ b. cond b None w.holder) (ne_eqb l 0 far)))
-        (λ i. ap (has n) (sym (hands_else i k ne))) (λ i. ap (was_swept n) (sym (swept_else i k ne))) (λ i. ap (is_word_of n) (sym (swept_else i k ne))) refl
-        (number lends out keeper w h k n)))
-      where
-        by : (P : ℕ → List ℕ → Type 0) → P v.name (after l e (w.hands v.name l)) → ((i : ℕ) → i ≢ v.name → P i (w.hands i l)) → (i : ℕ) → P i (w'.hands i l)
-        by P here else = every (λ i f. P i (f l)) w.hands v.name (hands_after after empties l e (w.hands v.name))
-            (subst (P v.name) (sym (ap (λ b. cond b (after l e (w.hands v.name l)) (cond ((l == 0) && is_at l (empties e)) [] (w.hands v.name l)))
-            (eq-eqb l l refl))) here) else
-
--- nothing is lent, and nothing is out
-abbrev pub no_number : {E : Type 0} → ℕ → List (ℕ × E) → ℕ → Type 0
-no_number l list n = ⊥
-
+-- For values that lend no numbers
 module _ {E : Type 0} (keeper : ℕ → List (ℕ × E) → Option ℕ) where
-  abbrev pub Unlent : World E → Type 0
-  Unlent w = Handed no_number no_number keeper w
-
-  pub unlent : (w : World E) → ((i k n : ℕ) → has n (w.hands i k) ≡ false) → ((k n : ℕ) → is_marked n (w.marks k) ≡ false) → Unlent w
+  pub unlent : (w : World E) → ((i k n : ℕ) → has n (w.hands i k) ≡ false) → ((k n : ℕ) → is_marked n (w.marks k) ≡ false) → Unlent keeper w
   unlent w no_hand no_mark = search (arith, no_hand, no_mark)
 
   pub lends_nothing : (after : ℕ → E → List ℕ → List ℕ) (empties : E → Option ℕ) (l : ℕ) (e : E) (j : ℕ) (w : World E)
-      → ((hand : List ℕ) → after l e hand ≡ hand) → Unlent w → Unlent (entered (hands_after after empties) l j e w)
+      → ((hand : List ℕ) → after l e hand ≡ hand) → Unlent keeper w → Unlent keeper (entered (hands_after after empties) l j e w)
   lends_nothing after empties l e j w same h =
       let none : (i k n : ℕ) → has n (w.hands i k) ≡ false = λ i k n. true_or_not (has n (w.hands i k)) (λ q. h.lent i k n q) in
       let w' : World E = entered (hands_after after empties) l j e w in

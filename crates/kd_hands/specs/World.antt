@@ -1,13 +1,16 @@
--- What stands in the lists, hands and marks of all passes at one moment, and what an entry does to it.
-use Rattle.std.specs.Prelude.{◌≡◌, ℕ, ◌==◌, ◌&&◌, ◌⊎◌, Bool, true, false, cond, List, [], ◌∷◌, ◌++◌, Option, Some, None}
-use Rattle.kd_turn.specs.Lists.{has, is_marked, was_swept, is_word_of, is_at, at_place}
+-- What stands in the lists, hands and marks of all passes at one moment, and what each step makes of it.
+use Rattle.std.specs.Prelude.{◌≡◌, ℕ, ◌/◌, ◌%◌, ◌^◌, ◌==◌, ◌&&◌, ◌⊎◌, Bool, true, false, cond, List, [], ◌∷◌, ◌++◌, Option, Some, None}
+use Rattle.std.specs.Int.Bits.{bit_or}
+use Rattle.kd_hands.specs.Lists.{has, without, is_marked, was_swept, is_word_of, is_at, at_place}
 
+-- what the lists say
 pub record Histories (E : Type 0) : Type 0 where
   -- of each lock, the entries of all its turns, each with the number of the pass that made it
   pub lists : ℕ → List (ℕ × E)
   -- the entries that the holder of lock 0 has made on other locks since it took lock 0, each with its lock; empty where nobody holds lock 0
   pub opened : List (ℕ × ℕ × E)
 
+-- all that the passes have done, at one moment
 pub record World (E : Type 0) : Type 0 where
   pub told : Histories E
   -- the pass that holds lock 0
@@ -19,8 +22,13 @@ pub record World (E : Type 0) : Type 0 where
   -- of a pass and a lock, the mark words that it swept in this turn, each with its place among the four
   pub swept : ℕ → ℕ → List (ℕ × ℕ)
 
+-- the mark words of a lock, after the number n is marked
+abbrev pub with_mark : ℕ → (ℕ → ℕ) → ℕ → ℕ
+with_mark n words = at_place words (n / 64) (bit_or (words (n / 64)) (2 ^ (n % 64)))
+
 module _ {E : Type 0} where
-  -- The hands of a pass by lock, after its entry e on the lock l. The entry changes the hand of its own lock; one on lock 0 may also empty the hand of one other lock
+  -- The hands of a pass by lock, after its entry e on the lock l. The entry changes the hand of its own lock; one on lock 0 may also empty the hand
+  -- of one other lock
   abbrev pub hands_after : (ℕ → E → List ℕ → List ℕ) → (E → Option ℕ) → ℕ → E → (ℕ → List ℕ) → ℕ → List ℕ
   hands_after after empties l e hands k = cond (k == l) (after l e (hands l)) (cond ((l == 0) && is_at k (empties e)) [] (hands k))
 
@@ -46,7 +54,18 @@ module _ {E : Type 0} where
   abbrev pub taken : ℕ → ℕ → World E → World E
   taken l j w = record w { holder = cond (l == 0) (Some j) w.holder }
 
--- The point on hands. Of each lock's list: which numbers it lends, and which of these it has out; and of the list of lock 0, the one pass that may have numbers of a lock in its hand
+  -- the pass j marked the number n of the lock l
+  abbrev pub marked_in : ℕ → ℕ → ℕ → World E → World E
+  marked_in l n j w =
+      record w { hands = at_place w.hands j (at_place (w.hands j) l (without n (w.hands j l))); marks = at_place w.marks l (with_mark n (w.marks l)) }
+
+  -- the pass j swept the word q of the lock l
+  abbrev pub swept_in : ℕ → ℕ → ℕ → World E → World E
+  swept_in l q j w =
+      record w { marks = at_place w.marks l (at_place (w.marks l) q 0); swept = at_place w.swept j (at_place (w.swept j) l (w.swept j l ++ (q, w.marks l q) ∷ [])) }
+
+-- The point on hands. Of each lock's list: which numbers it lends, and which of these it has out; and of the list of lock 0, the one pass that may have
+-- numbers of a lock in its hand
 pub record Handed {E : Type 0} (lends out : ℕ → List (ℕ × E) → ℕ → Type 0) (keeper : ℕ → List (ℕ × E) → Option ℕ) (w : World E) : Type 0 where
   -- what is in a hand, or marked, is lent
   pub lent : (j l n : ℕ) → has n (w.hands j l) ≡ true → lends l (w.told.lists l) n

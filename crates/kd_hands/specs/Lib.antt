@@ -1,0 +1,5 @@
+pub mod Lists
+pub mod World
+pub mod Settles
+pub mod Views
+pub mod Fits
