@@ -23,3 +23,4 @@ pub mod Callers
 pub mod Others
 pub mod Opens
 pub mod Seating
+pub mod Laid

@@ -18,11 +18,11 @@ pub record IsKeptByAdding (R : List Slice → Type 0) : Type 0 where
       → R (map (with_content s.slot.number c arrival) (put_in_order stands_lower s xs))
 
 -- the slice that is reserved under a number and at a place
-abbrev new_slice : ℕ → ℕ → ℕ → Option ℕ → ℕ → Pool → Slice
+abbrev pub new_slice : ℕ → ℕ → ℕ → Option ℕ → ℕ → Pool → Slice
 new_slice n at len user source p = record { slot = new_slot n at len user source; bytes = take len (drop at p.memory); shared = None }
 
 -- under an unused number it is new
-is_new : (p : Pool) (n at len source : ℕ) (user : Option ℕ) → unused_number (book_of p) ≡ Some n → IsNew (new_slice n at len user source p) p.slices
+pub is_new : (p : Pool) (n at len source : ℕ) (user : Option ℕ) → unused_number (book_of p) ≡ Some n → IsNew (new_slice n at len user source p) p.slices
 is_new p n at len source user e = record {
   reserved = refl;
   low = unused_below (book_of p) n e;

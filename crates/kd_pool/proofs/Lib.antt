@@ -13,6 +13,7 @@ pub mod Offers
 pub mod Picks
 pub mod Publishes
 pub mod Receives
+pub mod Reserved
 pub mod RowsPool
 pub mod Shares
 pub mod Stays

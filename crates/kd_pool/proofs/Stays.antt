@@ -30,7 +30,7 @@ any_follow P Q (x ∷ xs) f (inl p) = inl (f x p)
 any_follow P Q (x ∷ xs) f (inr a) = inr (any_follow P Q xs f a)
 
 -- what is kept by a filter
-any_of_filter : {X : Type 0} (P : X → Type 0) (keeps : X → Bool) (xs : List X) → ((x : X) → P x → keeps x ≡ true) → AnyOf P xs → AnyOf P (filter keeps xs)
+pub any_of_filter : {X : Type 0} (P : X → Type 0) (keeps : X → Bool) (xs : List X) → ((x : X) → P x → keeps x ≡ true) → AnyOf P xs → AnyOf P (filter keeps xs)
 any_of_filter P keeps [] f a = a
 any_of_filter P keeps (x ∷ xs) f (inl p) = let kept = f x p in rw kept (inl p)
 any_of_filter P keeps (x ∷ xs) f (inr a) =
@@ -54,7 +54,7 @@ any_of_put {X = X} P below x (y ∷ ys) (inr a) = go (below x y) (any_of_put P b
     go false later = inr later
 
 -- after a change
-any_of_map : {X Y : Type 0} (P : X → Type 0) (Q : Y → Type 0) (f : X → Y) (xs : List X) → ((x : X) → P x → Q (f x)) → AnyOf P xs → AnyOf Q (map f xs)
+pub any_of_map : {X Y : Type 0} (P : X → Type 0) (Q : Y → Type 0) (f : X → Y) (xs : List X) → ((x : X) → P x → Q (f x)) → AnyOf P xs → AnyOf Q (map f xs)
 any_of_map P Q f [] g a = a
 any_of_map P Q f (x ∷ xs) g (inl p) = inl (g x p)
 any_of_map P Q f (x ∷ xs) g (inr a) = inr (any_of_map P Q f xs g a)
@@ -77,7 +77,7 @@ pub record IsIn (p : Pool) (x : Slice) : Type 0 where
   pub there : AnyOf (λ (y : Slice). y ≡ x) p.slices
   pub found : find (has_number x.slot.number) (slots p) ≡ Some x.slot
 
-all_in : (p : Pool) → AreNumbered (Some p) → AllByRecursion (IsIn p) p.slices
+pub all_in : (p : Pool) → AreNumbered (Some p) → AllByRecursion (IsIn p) p.slices
 all_in p d =
     let found = all_under (λ (s : Slot). find (has_number s.number) (slots p) ≡ Some s) slot_of p.slices (each_found (slots p) (slots_apart p d)) in
     all_both _ _ (IsIn p) p.slices (λ x a f. record { there = a; found = f }) (each_is_one p.slices) found
@@ -126,7 +126,7 @@ stays_by_phase phase n p x i = any_of_map _ (IsSame x) (set_phase phase n) p.sli
 
 -- ---- what is put into a pool
 
-there_kept_by_adding : (x : Slice) → is_freed x.slot ≡ false → IsKeptByAdding (λ xs. AnyOf (λ (y : Slice). y ≡ x) xs)
+pub there_kept_by_adding : (x : Slice) → is_freed x.slot ≡ false → IsKeptByAdding (λ xs. AnyOf (λ (y : Slice). y ≡ x) xs)
 there_kept_by_adding x out = record {
   sweeping = λ xs a. any_of_filter _ _ xs (λ y e. not_from_false (is_freed y.slot) (ap (λ (s : Slice). is_freed s.slot) e ∙ out)) a;
   reserving = λ xs s new a. any_of_put _ stands_lower s xs a;

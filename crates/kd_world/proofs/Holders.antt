@@ -139,13 +139,13 @@ take_keeps d pools callers n x k c (Ok p) e =
 
 -- ---- visits
 
-visit_is : (d : Desk) (h : Holder) (pools : List Hold) (callers : List Caller) (n s : ℕ)
+pub visit_is : (d : Desk) (h : Holder) (pools : List Hold) (callers : List Caller) (n s : ℕ)
     → of d (Some (record h { outs = h.outs ++ pool_answer (of d (Some h) pools callers) (visit n s) ∷ [] })) (pools_after (of d (Some h) pools callers) (visit n s)) callers
     ≡ step (of d (Some h) pools callers) (visit n s)
 unfolding holder_after desk_after callers_after
 visit_is d h pools callers n s = refl
 
-visit_act : (d : Desk) (h : Holder) (pools : List Hold) (callers : List Caller) (n s : ℕ) (q : Part) → next_visit (of d (Some h) pools callers) h ≡ Some q
+pub visit_act : (d : Desk) (h : Holder) (pools : List Hold) (callers : List Caller) (n s : ℕ) (q : Part) → next_visit (of d (Some h) pools callers) h ≡ Some q
     → act_of (of d (Some h) pools callers) (visit n s) ≡ Some (aimed q)
 unfolding act_of
 visit_act d h pools callers n s q e = ap (option_map aimed) e
@@ -247,7 +247,7 @@ module _ (d : Desk) (h : Holder) (pools : List Hold) (callers : List Caller) (k 
 
 -- ---- leaving the desk
 
-leave_is : (d : Desk) (h : Holder) (pools : List Hold) (callers : List Caller) (n : ℕ)
+pub leave_is : (d : Desk) (h : Holder) (pools : List Hold) (callers : List Caller) (n : ℕ)
     → of (end_of (of d (Some h) pools callers) h).next None pools
     (set callers (n - 1) (left_caller (of d (Some h) pools callers) h (caller_at (of d (Some h) pools callers) n)))
     ≡ step (of d (Some h) pools callers) (leave n)

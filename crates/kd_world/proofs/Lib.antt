@@ -7,6 +7,10 @@ pub mod Holders
 pub mod Own
 pub mod Reached
 pub mod Staying
+pub mod Made
+pub mod Owing
+pub mod Placing
+pub mod Arriving
 mod Messages
 mod Naming
 mod Policies

@@ -23,7 +23,7 @@ use Rattle.kd_world.proofs.Agreeing.{Agrees, Face, Sits, but_at, each, has, here
 abbrev pub face_after : Desk → Face → WhoKind → Face
 face_after e f b = record { member = b; kind = kind_after e b f.kind; hand = hand_after b f.hand }
 
-not_true : (b : Bool) → (b ≡ true → ⊥) → b ≡ false
+pub not_true : (b : Bool) → (b ≡ true → ⊥) → b ≡ false
 not_true true h = absurd (h refl)
 not_true false h = refl
 

@@ -111,44 +111,44 @@ freed_agrees hand number m a was low old = dite (ℕ_discrete m number)
 
 -- ---- the world after each event
 
-publish_is : (d : Desk) (o : Option Holder) (pools : List Hold) (callers : List Caller) (n s number : ℕ)
+pub publish_is : (d : Desk) (o : Option Holder) (pools : List Hold) (callers : List Caller) (n s number : ℕ)
     → of d o (pools_after (of d o pools callers) (publishes n s number)) (set callers (n - 1) (has_published s number (caller_at (of d o pools callers) n)))
     ≡ step (of d o pools callers) (publishes n s number)
 unfolding holder_after desk_after callers_after
 publish_is d o pools callers n s number = refl
 
-receive_is : (d : Desk) (o : Option Holder) (pools : List Hold) (callers : List Caller) (n : ℕ) (mode : RecvMode)
+pub receive_is : (d : Desk) (o : Option Holder) (pools : List Hold) (callers : List Caller) (n : ℕ) (mode : RecvMode)
     → of d o (pools_after (of d o pools callers) (receives n mode)) (set callers (n - 1)
     (record (caller_at (of d o pools callers) n) { hand = hand_received mode (pool_answer (of d o pools callers) (receives n mode)) (caller_at (of d o pools callers) n).hand }))
     ≡ step (of d o pools callers) (receives n mode)
 unfolding holder_after desk_after callers_after
 receive_is d o pools callers n mode = refl
 
-read_is : (d : Desk) (o : Option Holder) (pools : List Hold) (callers : List Caller) (n number : ℕ) (sealed : Bool)
+pub read_is : (d : Desk) (o : Option Holder) (pools : List Hold) (callers : List Caller) (n number : ℕ) (sealed : Bool)
     → of d o (pools_after (of d o pools callers) (reads n number sealed)) callers ≡ step (of d o pools callers) (reads n number sealed)
 unfolding holder_after desk_after callers_after
 read_is d o pools callers n number sealed = refl
 
-free_is : (d : Desk) (o : Option Holder) (pools : List Hold) (callers : List Caller) (n number : ℕ)
+pub free_is : (d : Desk) (o : Option Holder) (pools : List Hold) (callers : List Caller) (n number : ℕ)
     → of d o (pools_after (of d o pools callers) (frees n number)) (set callers (n - 1)
     (record (caller_at (of d o pools callers) n) { hand = hand_freed number (told_of (caller_at (of d o pools callers) n) number) (caller_at (of d o pools callers) n).hand }))
     ≡ step (of d o pools callers) (frees n number)
 unfolding holder_after desk_after callers_after
 free_is d o pools callers n number = refl
 
-publish_act : (w : World) (n s number : ℕ) (q : Option Pending) → pending_of w n s number ≡ q → act_of w (publishes n s number) ≡ publish_of q
+pub publish_act : (w : World) (n s number : ℕ) (q : Option Pending) → pending_of w n s number ≡ q → act_of w (publishes n s number) ≡ publish_of q
 unfolding act_of
 publish_act w n s number q f = ap publish_of f
 
-receive_act : (w : World) (n : ℕ) (mode : RecvMode) (s : Option ℕ) → seat_of (caller_at w n) ≡ s → act_of w (receives n mode) ≡ act_at s (receive mode)
+pub receive_act : (w : World) (n : ℕ) (mode : RecvMode) (s : Option ℕ) → seat_of (caller_at w n) ≡ s → act_of w (receives n mode) ≡ act_at s (receive mode)
 unfolding act_of
 receive_act w n mode s f = ap (λ t. act_at t (receive mode)) f
 
-read_act : (w : World) (n number : ℕ) (sealed : Bool) (s : Option ℕ) → seat_of (caller_at w n) ≡ s → act_of w (reads n number sealed) ≡ act_at s (read number sealed)
+pub read_act : (w : World) (n number : ℕ) (sealed : Bool) (s : Option ℕ) → seat_of (caller_at w n) ≡ s → act_of w (reads n number sealed) ≡ act_at s (read number sealed)
 unfolding act_of
 read_act w n number sealed s f = ap (λ t. act_at t (read number sealed)) f
 
-free_act : (w : World) (n number : ℕ) (t : Option Told) → told_of (caller_at w n) number ≡ t → act_of w (frees n number) ≡ free_of (seat_of (caller_at w n)) number t
+pub free_act : (w : World) (n number : ℕ) (t : Option Told) → told_of (caller_at w n) number ≡ t → act_of w (frees n number) ≡ free_of (seat_of (caller_at w n)) number t
 unfolding act_of
 free_act w n number t f = ap (free_of (seat_of (caller_at w n)) number) f
 

@@ -1,16 +1,15 @@
 -- Whatever legal events lead to: hands agree with pools there.
-use Rattle.std.specs.Prelude.{◌≡◌, ◌-◌, ◌==◌, ◌&&◌, ℕ, true, false, not, List, [], ◌∷◌, ◌++◌, get_or, replicate, refl, Option, Some, None, is_none, is_some}
+use Rattle.std.specs.Prelude.{◌≡◌, ◌-◌, ◌==◌, ◌&&◌, ℕ, true, false, not, List, [], ◌∷◌, ◌++◌, replicate, refl, Option, Some, None, is_none, is_some}
 use Rattle.std.specs.List.{IsDistinct}
-use Rattle.std.proofs.Common.{ap, sym, subst, ◌∙◌, arith, eqb-true}
+use Rattle.std.proofs.Common.{ap, sym, subst, ◌∙◌, eqb-true}
 use Rattle.std.proofs.lemmas.Bool.{true≢false}
-use Rattle.std.proofs.lemmas.Grind.{common_steps}
 use Rattle.kd_wire.specs.WellFormed.{is_well_formed}
 use Rattle.kd_pool.specs.State.{Hold}
 use Rattle.kd_desk.specs.declared.who.WhoKind.TheVariants as who
 use Rattle.kd_desk.specs.State.{Desk, opening}
 use Rattle.kd_desk.specs.Seating.{is_live}
 use Rattle.kd_desk.specs.Send.{Part}
-use Rattle.kd_world.specs.Agreed.{HandsAlwaysAgree, IsReached, is_told_handed}
+use Rattle.kd_world.specs.Agreed.{HandsAlwaysAgree, IsReached}
 use Rattle.kd_world.specs.World.{Caller, Event, Holder, World, all_legal, closed, frees, holds_desk, is_caller, is_for_desk, is_part_at, leave, legal, new_world, next_visit, pending_of, planned, caller_at, publishes, reads, receives, runs, step, stranger, take, visit}
 use Rattle.kd_world.proofs.Tied.{first_half, no_some, of, second}
 use Rattle.kd_world.proofs.Agreeing.{Agrees}

@@ -3,3 +3,4 @@ pub mod Hands
 pub mod Pendings
 pub mod Tie
 pub mod Agreed
+pub mod Owed

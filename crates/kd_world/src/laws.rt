@@ -1,6 +1,7 @@
 //! What holds of every list of events, from the opening of a bus on. Nothing is run here; each function's contract is a law.
 
 ghost use Rattle.kd_world.specs.Agreed.{HandsAlwaysAgree, SlicesAlwaysStay};
+ghost use Rattle.kd_world.specs.Owed.{PublishesAlwaysArrive};
 ghost use Rattle.kd_world.specs.Tie.{AddressedIsOffered, OfferedSoFar};
 
 /// Whenever the desk is free, each pool was offered exactly what the desk's history addresses to it, in order, each once.
@@ -25,4 +26,11 @@ pub fn hands_always_agree()
 /// close, a drain or a drop lets it go. No open pool is ever raised.
 pub fn slices_always_stay()
     ensures { SlicesAlwaysStay }
+{}
+
+/// What was placed is published: whatever a caller still has to publish is placed where its pool is open and was neither closed nor raised since,
+/// and else it's gone.
+#[tactic(auto, using(crate::proofs::Arriving::publishes_always_arrive))]
+pub fn publishes_always_arrive()
+    ensures { PublishesAlwaysArrive }
 {}
