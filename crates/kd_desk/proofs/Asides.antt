@@ -1,5 +1,5 @@
--- Parts that neither raise a pool nor close one.
-use Rattle.std.proofs.Common.{◌≡◌, ℕ, Bool, true, false, List, [], ◌∷◌, ◌++◌, map, Option, Some, None, refl, sym, ap, ◌∙◌}
+-- Parts that neither raise a pool nor close one, whose offers are of as many bytes as their contents have.
+use Rattle.std.proofs.Common.{◌≡◌, ℕ, Bool, true, false, List, [], ◌∷◌, ◌++◌, length, map, Option, Some, None, refl, sym, ap, ◌∙◌}
 use Rattle.std.specs.Prelude.{◌==◌}
 use Rattle.std.specs.List.{AllByRecursion}
 use Rattle.kd_model.proofs.Lists.{all_of_append}
@@ -16,9 +16,11 @@ use Rattle.kd_desk.specs.Seating.{open_along, open_at}
 use Rattle.kd_desk.specs.Send.{Part, is_broadcast, offered_to, receiver, send_parts, shown, unicast_parts}
 use Rattle.kd_desk.specs.Step.{images_in, next_part, with_images}
 
+-- neither a raise nor a close, nor an offer of another length than its content's
 abbrev pub IsAside : Visit → Type 0
 IsAside (raise size) = ⊥
 IsAside (close force) = ⊥
+IsAside (offer user len source must content) = len ≡ length content.image
 IsAside _ = Unit {0}
 
 abbrev pub AreAside : List Part → Type 0
@@ -41,11 +43,11 @@ notices_aside d (s ∷ ss) = all_of_append (λ (p : Part). IsAside p.act) (posts
 
 offered_aside : (d : Desk) (s : Conn) (m : Sent) (dst : ℕ) (must : Bool) (rs : List Conn) → AreAside (map (offered_to d s m dst must) rs)
 offered_aside d s m dst must [] = tt
-offered_aside d s m dst must (r ∷ rs) = (tt, offered_aside d s m dst must rs)
+offered_aside d s m dst must (r ∷ rs) = (refl, offered_aside d s m dst must rs)
 
 unicast_aside : (d : Desk) (s : Conn) (m : Sent) (o : Option Conn) → AreAside (unicast_parts d s m o)
 unicast_aside d s m None = tt
-unicast_aside d s m (Some r) = (tt, offered_aside d s m r.id false (monitors d))
+unicast_aside d s m (Some r) = (refl, offered_aside d s m r.id false (monitors d))
 
 -- a message's offers
 pub send_aside : (d : Desk) (s : Conn) (m : Sent) → AreAside (send_parts d s m)
@@ -103,7 +105,8 @@ aside_raises (post image) a = tt
 aside_raises drain a = tt
 aside_raises (settle images) a = tt
 
--- images change nothing of it
+-- ---- the next part, with what was drained before it
+
 met_raises : (is : List Image) (v : Visit) → RaisesNone v → RaisesNone (with_images is v)
 met_raises is (raise size) a = a
 met_raises is (close force) a = tt
@@ -112,9 +115,27 @@ met_raises is (post image) a = tt
 met_raises is drain a = tt
 met_raises is (settle images) a = tt
 
--- nor does the next of them
-pub next_raises : (is : List Image) (ps : List Part) (outs : List Answer) (q : Part) → RaiseNone ps → next_part is ps outs ≡ Some q → RaisesNone q.act
+met_aside : (is : List Image) (v : Visit) → IsAside v → IsAside (with_images is v)
+met_aside is (raise size) a = a
+met_aside is (close force) a = a
+met_aside is (offer user len source must content) a = a
+met_aside is (post image) a = tt
+met_aside is drain a = tt
+met_aside is (settle images) a = tt
+
+-- what images change nothing of holds of it, if of all
+next_holds :
+    (P : Visit → Type 0) → ((is : List Image) (v : Visit) → P v → P (with_images is v)) → (is : List Image) (ps : List Part) (outs : List Answer) (q : Part)
+    → AllByRecursion (λ (p : Part). P p.act) ps → next_part is ps outs ≡ Some q → P q.act
 unfolding next_part
-next_raises is [] outs q a e = absurd cc
-next_raises is (p ∷ ps) [] q a e = let same : record p { act = with_images is p.act } ≡ q = cc in rw (sym same) (met_raises is p.act a.0)
-next_raises is (p ∷ ps) (o ∷ outs) q a e = next_raises (is ++ images_in o) ps outs q a.1 e
+next_holds P met is [] outs q a e = absurd cc
+next_holds P met is (p ∷ ps) [] q a e = let same : record p { act = with_images is p.act } ≡ q = cc in rw (sym same) (met is p.act a.0)
+next_holds P met is (p ∷ ps) (o ∷ outs) q a e = next_holds P met (is ++ images_in o) ps outs q a.1 e
+
+-- it raises none
+pub next_raises : (is : List Image) (ps : List Part) (outs : List Answer) (q : Part) → RaiseNone ps → next_part is ps outs ≡ Some q → RaisesNone q.act
+next_raises is ps outs q a e = next_holds RaisesNone met_raises is ps outs q a e
+
+-- it is aside
+pub next_aside : (is : List Image) (ps : List Part) (outs : List Answer) (q : Part) → AreAside ps → next_part is ps outs ≡ Some q → IsAside q.act
+next_aside is ps outs q a e = next_holds IsAside met_aside is ps outs q a e

@@ -6,7 +6,8 @@ use Rattle.kd_pool.specs.State.{Answer, Image, Visit, by_desk, bytes_of, close, 
 use Rattle.kd_pool.proofs.Reserved.{turns}
 use Rattle.kd_desk.specs.Send.{Part}
 use Rattle.kd_desk.specs.Step.{images_in, next_part, with_images}
-use Rattle.kd_desk.proofs.Laid.{AreLaidOut, plain_next, plain_turns}
+use Rattle.kd_desk.proofs.Asides.{next_aside}
+use Rattle.kd_desk.proofs.Laid.{AreLaidOut, aside_turns}
 use Rattle.kd_world.specs.World.{World, pending_made, pendings_made, pool_at}
 use Rattle.kd_world.proofs.Tied.{append_assoc, append_nil, some_back}
 
@@ -27,7 +28,7 @@ module _ (w : World) where
   none_made is (p ∷ ps) [] q a e t = refl
   none_made is (p ∷ ps) (o ∷ outs) q (inl a) e t =
       ap (λ xs. xs ++ pendings_made w ps outs) (turn_makes p.seat p.act o a.0) ∙ none_made (is ++ images_in o) ps outs q a.1 e t
-  none_made is (p ∷ ps) (o ∷ outs) q (inr a) e t = absurd (false≢true (sym (plain_turns q.act (plain_next is (p ∷ ps) (o ∷ outs) q a e)) ∙ t))
+  none_made is (p ∷ ps) (o ∷ outs) q (inr a) e t = absurd (false≢true (sym (aside_turns q.act (next_aside is (p ∷ ps) (o ∷ outs) q a e)) ∙ t))
 
   pub made_of_none : (ps : List Part) → pendings_made w ps [] ≡ []
   made_of_none [] = refl

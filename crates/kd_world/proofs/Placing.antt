@@ -1,11 +1,10 @@
 -- What is owed while callers take the desk, visit pools and leave it.
-use Rattle.std.specs.Prelude.{◌≡◌, ◌≢◌, ◌⊎◌, ◌<◌, ◌-◌, ◌==◌, ◌&&◌, ℕ, Bool, true, false, List, [], ◌∷◌, ◌++◌, length, get_or, replicate, set, refl, Option, Some, None, Result, Ok, Err}
+use Rattle.std.specs.Prelude.{◌≡◌, ◌≢◌, ◌⊎◌, ◌<◌, ◌-◌, ◌==◌, ℕ, Bool, true, false, List, [], ◌∷◌, ◌++◌, length, get_or, replicate, set, refl, Option, Some, None, Result, Ok, Err}
 use Rattle.std.proofs.Common.{ap, sym, subst, ◌∙◌, arith, inl, inr, ⊎_elim, eq-eqb, ne_eqb, get_or-set_other, get_or-set_same}
 use Rattle.std.proofs.lemmas.Bool.{true≢false}
 use mathlib.Core.Logic.{dite}
 use native.Mathlib.Decide.{ℕ_discrete}
 use Rattle.kd_types.specs.declared.refusal.Refusal.{Refusal}
-use Rattle.kd_types.specs.declared.refusal.Refusal.TheVariants.{NoSuchBus}
 use Rattle.kd_wire.specs.declared.command.Command.{Command}
 use Rattle.kd_pool.specs.State.{Act, Answer, Content, Hold, Visit, by_desk, bytes_of, close, done, drain, drained, freed, gone, got, offer, placed, post, raise, refused, settle, slice}
 use Rattle.kd_pool.specs.Steps.{after, answer}
@@ -14,13 +13,13 @@ use Rattle.kd_desk.specs.declared.who.Who.{Who}
 use Rattle.kd_desk.specs.State.{Desk}
 use Rattle.kd_desk.specs.Plans.{Plan}
 use Rattle.kd_desk.specs.Send.{Part}
-use Rattle.kd_desk.specs.Step.{parts_in, plan}
-use Rattle.kd_desk.proofs.Laid.{AreLaidOut, IsPlain, laid_next, plan_laid}
+use Rattle.kd_desk.proofs.Asides.{IsAside}
+use Rattle.kd_desk.proofs.Laid.{AreLaidOut, laid_next, plan_laid}
 use Rattle.kd_world.specs.Pendings.{Pending}
-use Rattle.kd_world.specs.World.{Caller, Holder, World, aimed, caller_at, closed, end_of, holder_by, is_fresh, leave, left_caller, names_other_bus, new_world, next_visit, parts_held, parts_planned, pending_made, pendings_made, planned, pool_answer, step, stranger, visit}
+use Rattle.kd_world.specs.World.{Caller, Holder, World, aimed, caller_at, closed, end_of, holder_by, leave, left_caller, new_world, next_visit, parts_held, pending_made, pendings_made, pool_answer, step, stranger, visit}
 use Rattle.kd_world.proofs.Tied.{append_assoc, append_nil, next_from, of}
 use Rattle.kd_world.proofs.Agreeing.{but_at, each}
-use Rattle.kd_world.proofs.Holders.{Kept, answer_is, caller_index, leave_is, pools_are, pools_of, visit_act, visit_is}
+use Rattle.kd_world.proofs.Holders.{Kept, answer_is, caller_index, hold, its, knows, leave_is, parts_are, plans, pools_are, pools_of, visit_act, visit_is}
 use Rattle.kd_world.proofs.Moving.{alike}
 use Rattle.kd_world.proofs.Made.{made_alike, made_more, made_of_none, none_made, turn_makes}
 use Rattle.kd_world.proofs.Owing.{Owes, owes_more, owes_still, same_generations, with_owing}
@@ -66,14 +65,6 @@ take_owes d pools callers n x who (Ok p) w =
     (λ z. ap (made_by t (Some h)) z ∙ made_here t h ∙ made_of_none t (parts_held t h)) (λ ne. made_else t h i ne)))) w
 
 -- ---- visits
-
-held_laid : (w : World) (h : Holder) → AreLaidOut (parts_held w h)
-unfolding parts_planned planned
-held_laid w h = go (is_fresh h.who.member && names_other_bus h.command)
-  where
-    go : (b : Bool) → AreLaidOut (parts_in (elim b as (λ b. Result Plan Refusal) [ true ↦ Err (NoSuchBus 0) | false ↦ plan w.desk h.who h.command ]))
-    go true = tt
-    go false = plan_laid w.desk h.who h.command
 
 -- an offer that was answered with a slice
 pub record Places (v : Visit) (o : Answer) : Type 0 where
@@ -129,6 +120,11 @@ module _ (d : Desk) (h : Holder) (pools : List Hold) (callers : List Caller) (k 
   abbrev w' : World
   w' = of d (Some h') pools' callers
 
+  held_laid : AreLaidOut ps
+  held_laid =
+      subst AreLaidOut (sym (parts_are d h pools callers k))
+      (plan_laid d (its d h pools callers k).kind h.who h.command (hold d h pools callers k).plan (knows d h pools callers k) (plans d h pools callers k))
+
   said_is : o ≡ answer (get_or pools q.seat closed) act
   said_is = answer_is w (visit n s) (aimed q) (visit_act d h pools callers n s q next)
 
@@ -156,21 +152,21 @@ module _ (d : Desk) (h : Holder) (pools : List Hold) (callers : List Caller) (k 
       (sym said_is ∙ x.answered) fits)
 
   -- a part that ends no generation
-  by_plain : turns act ≡ false → IsPlain q.act → OwesWell w'
-  by_plain still plain =
+  by_aside : turns act ≡ false → IsAside q.act → OwesWell w'
+  by_aside still aside =
       let all : pendings_made w' ps (h.outs ++ o ∷ []) ≡ pendings_made w ps h.outs ++ pending_made w q.seat q.act o =
       made_alike w w' (same_generations pools k.agrees.numbered q.seat act still) ps (h.outs ++ o ∷ []) ∙ made_more w [] ps h.outs o q (next_from w h q next) in
       ⊎_elim
       (λ (none : pending_made w q.seat q.act o ≡ []).
       nothing_more (all ∙ ap (λ xs. pendings_made w ps h.outs ++ xs) none ∙ append_nil (pendings_made w ps h.outs)))
-      (λ (x : Places q.act o). one_more x (subst IsPlain x.offered plain)
+      (λ (x : Places q.act o). one_more x (subst IsAside x.offered aside)
       (all ∙ ap (λ (t : Visit × Answer). pendings_made w ps h.outs ++ pending_made w q.seat t.0 t.1) (λ j. (x.offered j, x.answered j))))
       (makes w q.seat q.act o)
 
   -- one that does comes before all offers
   by_turn : turns act ≡ true → OwesWell w'
   by_turn t =
-      let laid = held_laid w h in
+      let laid = held_laid in
       let from = next_from w h q next in
       let before : pendings_made w ps h.outs ≡ [] = none_made w [] ps h.outs q laid from t in
       let after_it : pendings_made w' ps h.outs ≡ [] = none_made w' [] ps h.outs q laid from t in
@@ -183,8 +179,8 @@ module _ (d : Desk) (h : Holder) (pools : List Hold) (callers : List Caller) (k 
     where
       by_kind : (b : Bool) → turns act ≡ b → OwesWell w'
       by_kind true t = by_turn t
-      by_kind false t = ⊎_elim (λ (x : turns act ≡ true). absurd (true≢false (sym x ∙ t))) (λ (x : IsPlain q.act). by_plain t x)
-          (laid_next [] ps h.outs q (held_laid w h) (next_from w h q next))
+      by_kind false t = ⊎_elim (λ (x : turns act ≡ true). absurd (true≢false (sym x ∙ t))) (λ (x : IsAside q.act). by_aside t x)
+          (laid_next [] ps h.outs q held_laid (next_from w h q next))
 
 -- ---- leaving the desk
 
