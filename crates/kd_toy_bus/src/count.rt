@@ -1,8 +1,9 @@
 //! A value that counts the turns on its lock. A turn may lend a number to the second pass.
 ghost use Rattle.std.specs.Prelude.{◌≡◌, ◌⊎◌, ℕ, ◌+◌, ◌*◌, ◌^◌, ◌<◌, ◌≤◌, [], length, true, false, None, Some, IfOk};
-ghost use Rattle.kd_hands.specs.Views.{hand};
+ghost use Rattle.kd_hands.specs.Views.{hand, part};
 ghost use Rattle.kd_hands.specs.Lists.{has};
-ghost use Rattle.kd_toy_bus.specs.Rests.{AreBack, AreNew, Rests};
+ghost use Rattle.kd_toy_bus.specs.Rests.{AreBack, AreNew, HaveTaken, Rests};
+ghost use Rattle.kd_toy_bus.specs.Counts.{turns_of_round};
 
 use crate::passes::{both, two_of, values_of};
 use kd_turn::gate::Gate;
@@ -76,6 +77,7 @@ fn turn_lending<R: Wait>(
     ensures rests { Rests gate.now pass.new }
     ensures name { pass.new.view.name ≡ pass.old.view.name }
     ensures turns { pass.new.view.turns ≡ pass.old.view.turns + 1 }
+    ensures entered { length (part pass.new.view lock).own ≡ length (part pass.old.view lock).own + 1 }
     ensures lent { (n : ℕ) → lent ≡ Some n → has n (hand pass.new.view lock) ≡ true }
 {
     let Count { turns } = pass.take(rt, gate, lock);
@@ -92,6 +94,7 @@ pub fn turn<R: Wait>(rt: &R, gate: &Gate<Count>, pass: &mut Pass<Count>, lock: u
     ensures rests { Rests gate.now pass.new }
     ensures name { pass.new.view.name ≡ pass.old.view.name }
     ensures turns { pass.new.view.turns ≡ pass.old.view.turns + 1 }
+    ensures entered { length (part pass.new.view lock).own ≡ length (part pass.old.view lock).own + 1 }
 {
     turn_lending(rt, gate, pass, lock, None);
 }
@@ -123,6 +126,7 @@ pub fn rounds<R: Wait>(
     requires turns { pass.view.turns + 2 * count ≤ 2 ^ 43 }
     ensures rests { Rests gate.now result }
     ensures name { result.view.name ≡ pass.view.name }
+    ensures turns { result.view.turns ≡ pass.view.turns + turns_of_round lock * count }
 {
     'turning: for round in 0..count {
         turn(rt, gate, &mut pass, 0);
@@ -144,12 +148,14 @@ pub fn rounds_of_all<R: Threads + Wait + Sync>(
     requires new { AreNew gate.now passes.items }
     requires lock { lock < gate.now.locks }
     ensures back { IfOk result (λ all. AreBack gate.now all.items) }
+    ensures turns { IfOk result (λ all. HaveTaken (turns_of_round lock * count) all.items) }
 {
     let work = |pass: Pass<Count>| -> Pass<Count>
         requires rests { Rests gate.now pass × (lock < gate.now.locks) }
         requires turns { pass.view.turns ≡ 0 }
         ensures rests { Rests gate.entry.now result }
         ensures name { result.view.name ≡ pass.view.name }
+        ensures turns { result.view.turns ≡ turns_of_round lock * count }
     { rounds(rt, gate, pass, lock, count) };
     let all = thread::map_vec(rt, passes, &work)?;
     Ok(all)

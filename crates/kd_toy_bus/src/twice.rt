@@ -1,7 +1,7 @@
 //! Two counted values that are tied: of the second one's turns there are twice as many as of the first one's, and as many more as
 //! the holder of the first has made since it took it.
 ghost use Rattle.std.specs.Prelude.{◌≡◌, ℕ, ◌+◌, ◌*◌, ◌^◌, ◌<◌, ◌≤◌, length, IfOk};
-ghost use Rattle.kd_toy_bus.specs.Rests.{AreBack, AreNew, Rests};
+ghost use Rattle.kd_toy_bus.specs.Rests.{AreBack, AreNew, HaveTaken, Rests};
 
 use kd_turn::gate::Gate;
 use kd_turn::pass::Pass;
@@ -76,6 +76,7 @@ pub fn rounds<R: Wait>(rt: &R, gate: &Gate<Twice>, mut pass: Pass<Twice>, count:
     requires turns { pass.view.turns + 3 * count ≤ 2 ^ 43 }
     ensures rests { Rests gate.now result }
     ensures name { result.view.name ≡ pass.view.name }
+    ensures turns { result.view.turns ≡ pass.view.turns + 3 * count }
 {
     'turning: for turn in 0..count {
         round(rt, gate, &mut pass);
@@ -93,12 +94,14 @@ pub fn rounds_of_all<R: Threads + Wait + Sync>(
     requires new { AreNew gate.now passes.items }
     requires locks { gate.now.locks ≡ 2 }
     ensures back { IfOk result (λ all. AreBack gate.now all.items) }
+    ensures turns { IfOk result (λ all. HaveTaken (3 * count) all.items) }
 {
     let work = |pass: Pass<Twice>| -> Pass<Twice>
         requires rests { Rests gate.now pass × (gate.now.locks ≡ 2) }
         requires turns { pass.view.turns ≡ 0 }
         ensures rests { Rests gate.entry.now result }
         ensures name { result.view.name ≡ pass.view.name }
+        ensures turns { result.view.turns ≡ 3 * count }
     { rounds(rt, gate, pass, count) };
     let all = thread::map_vec(rt, passes, &work)?;
     Ok(all)

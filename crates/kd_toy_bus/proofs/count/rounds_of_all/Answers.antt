@@ -20,6 +20,7 @@ returns g c =
             let near : k < length c.args.passes.items = omega arith in
             let job = (c.in_ok-all.ensures.each k d near).1 in
             let new = new_at c.args.gate.now c.args.passes.items c.requires.new k job.job near (sym (job.job_is job.job)) in
-            (job.call.met.0, job.call.met.1 ∙ new.fresh.name_is);
+            (job.call.met.0, job.call.met.1.0 ∙ new.fresh.name_is);
       };
+      turns = λ k d lt. let near : k < length c.args.passes.items = omega arith in (c.in_ok-all.ensures.each k d near).1.call.met.1.1;
     }

@@ -1,4 +1,4 @@
-use Rattle.std.proofs.Common.{◌≡◌, ◌+◌, ◌*◌, ◌≤◌}
+use Rattle.std.proofs.Common.{◌≡◌, ◌+◌, ◌*◌}
 use Rattle.kd_toy_bus.specs.Rests.{Rests}
 use Rattle.kd_toy_bus.proofs.twice.rounds.Given as goal
 
@@ -6,5 +6,5 @@ abbrev pub invariant-turning : goal.invariant-turning
 invariant-turning g l = record {
   rests : Rests l.gate l.pass;
   name : l.pass.view.name ≡ l.initial.pass.view.name;
-  turns : l.pass.view.turns ≤ l.initial.pass.view.turns + 3 * l.turn;
+  turns : l.pass.view.turns ≡ l.initial.pass.view.turns + 3 * l.turn;
 }
