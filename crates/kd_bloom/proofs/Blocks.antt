@@ -5,6 +5,7 @@ use Rattle.std.specs.Simd.{first_chunks}
 use Rattle.std.proofs.lemmas.Bool.{cases_eq, eq-eqb, ne_eqb}
 use Rattle.std.proofs.lemmas.List.{drop-drop}
 use Rattle.std.proofs.lemmas.Nat.{and-not, le_or_l, le_or_r}
+use Rattle.kd_model.proofs.Truth.{and_true}
 use Rattle.kd_bloom.specs.Bits.{passes}
 use Rattle.kd_bloom.specs.Packed.{unpacked, word_fits, words_fit, blocks_fit}
 use Rattle.kd_bloom.proofs.Joined.{AreBelow}
@@ -13,10 +14,6 @@ use Rattle.kd_bloom.proofs.Sets.{passes_by_words}
 and_both : (a b c : Bool) → (a && (b && c)) ≡ ((a && b) && c)
 and_both true b c = refl
 and_both false b c = refl
-
-and_true : (b : Bool) → (b && true) ≡ b
-and_true true = refl
-and_true false = refl
 
 -- ---- a test of pairs, one by one
 

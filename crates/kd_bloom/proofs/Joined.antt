@@ -5,7 +5,7 @@ use Rattle.std.proofs.lemmas.List.{get_or-append-add}
 use Rattle.std.proofs.lemmas.Nat.{div-add-mod', mod_below}
 use Rattle.std.proofs.lemmas.Nat.Bits.{bit_at-zero, bit_at_cat_low, bit_at_cat_high}
 use Rattle.byteorder.specs.Numbers.{little_number-reads_back}
-use Rattle.kd_bloom.specs.Packed.{word, unpacked}
+use Rattle.kd_bloom.specs.Packed.{packed_word, unpacked}
 
 -- the number of these digits in base 2 ^ k, the lowest first
 abbrev pub joined : ℕ → List ℕ → ℕ
@@ -42,8 +42,8 @@ low_below i zero x rest below j = below j
 low_below i (suc n) x rest below zero = byte_below i x
 low_below i (suc n) x rest below (suc j) = low_below (suc i) n x rest below j
 
-word_below : (w : ℕ) (rest : List ℕ) → AreBelow 256 rest → AreBelow 256 (word w ++ rest)
-unfolding word
+word_below : (w : ℕ) (rest : List ℕ) → AreBelow 256 rest → AreBelow 256 (packed_word w ++ rest)
+unfolding packed_word
 word_below w rest below = low_below 0 8 w rest below
 
 pub bytes_below : (ws : List ℕ) → AreBelow 256 (unpacked ws)
@@ -51,8 +51,8 @@ unfolding unpacked
 bytes_below [] i = omega arith
 bytes_below (w ∷ ws) i = word_below w (unpacked ws) (bytes_below ws) i
 
-word_joined : (w : ℕ) (rest : List ℕ) → w < 2 ^ 64 → joined 8 (word w ++ rest) ≡ joined 8 rest * 2 ^ 64 + w
-unfolding word
+word_joined : (w : ℕ) (rest : List ℕ) → w < 2 ^ 64 → joined 8 (packed_word w ++ rest) ≡ joined 8 rest * 2 ^ 64 + w
+unfolding packed_word
 word_joined w rest lt = let e = little_number-reads_back 8 w rest lt in omega (arith, e)
 
 -- the bytes of words join to the same number as the words

@@ -2,7 +2,7 @@
 use Rattle.std.proofs.Common.{◌≡◌, ℕ, zero, suc, ◌+◌, ◌-◌, ◌<◌, ◌≤◌, ◌==◌, true, ◌⊎◌, inl, inr, List, [], ◌∷◌, length, get_or, map, min, refl, ap, sym, ◌∙◌, arith}
 use Rattle.std.specs.List.{range_with_len, flat_map, Contains}
 use Rattle.kd_model.specs.Words.{contains}
-use Rattle.kd_bloom.specs.Bits.{has, meets, tested}
+use Rattle.kd_bloom.specs.Bits.{bit_is_set, meets, tested}
 use Rattle.kd_bloom.specs.Bloom.{hash_count, digest_bit, string_bits, IsFilter, IsMask, AreAmong}
 use Rattle.std.specs.Prelude.{slice_index_or}
 use Rattle.std.proofs.lemmas.Bool.{or_cases, or_left, or_right, false≢true}
@@ -44,7 +44,7 @@ pub never_lost : (size hashes g : ℕ) (strings asked : List (List ℕ)) (filter
 never_lost size hashes g strings asked filter mask some f m among =
     passes_true filter (tested g mask) set
   where
-    set : (b : ℕ) → has (get_or mask (min g (length mask - 1)) []) b ≡ true → has filter b ≡ true
+    set : (b : ℕ) → bit_is_set (get_or mask (min g (length mask - 1)) []) b ≡ true → bit_is_set filter b ≡ true
     set b here =
         let p = m.each (min g (length mask - 1)) (omega arith) in
         let found = from_flat b (string_bits size hashes (min g (length mask - 1))) asked (sym (p.bits b) ∙ here) in

@@ -8,7 +8,7 @@ use Rattle.std.proofs.lemmas.List.{append-nil, length-replicate, get_or-set_same
 use Rattle.std.proofs.lemmas.List.FromFn.{map-range_with_len_more}
 use Rattle.std.proofs.lemmas.Nat.Bits.{bit_at-zero, bit_at_set_same, bit_at_set_other}
 use Rattle.kd_model.specs.Words.{contains}
-use Rattle.kd_bloom.specs.Bits.{has}
+use Rattle.kd_bloom.specs.Bits.{bit_is_set}
 use Rattle.kd_bloom.specs.Bloom.{digest_bit, digest_bits, hash_count, string_bits, IsFilter}
 use Rattle.sha2.specs.Sha256.{sha256}
 
@@ -24,8 +24,8 @@ or_assoc false y z = refl
 abbrev pub with_bit : List ℕ → ℕ → List ℕ
 with_bit bytes bit = set bytes (bit / 8) (bit_or (get_or bytes (bit / 8) 0) (1 * 2 ^ (bit % 8) % 2 ^ 8))
 
-pub has-with_bit : (bytes : List ℕ) (bit : ℕ) → bit < 8 * length bytes → (b : ℕ) → has (with_bit bytes bit) b ≡ (has bytes b || b == bit)
-unfolding has
+pub has-with_bit : (bytes : List ℕ) (bit : ℕ) → bit < 8 * length bytes → (b : ℕ) → bit_is_set (with_bit bytes bit) b ≡ (bit_is_set bytes b || b == bit)
+unfolding bit_is_set
 has-with_bit bytes bit within b = go (cases_eq (b / 8) (bit / 8)) (cases_eq (b % 8) (bit % 8))
   where
     other_bit : ((b ≡ bit) → ⊥) → get_or (with_bit bytes bit) (b / 8) 0 / 2 ^ (b % 8) % 2 ≡ get_or bytes (b / 8) 0 / 2 ^ (b % 8) % 2 → (bit_at (get_or (with_bit bytes bit) (b / 8) 0) (b % 8) == 1) ≡ ((bit_at (get_or bytes (b / 8) 0) (b % 8) == 1) || b == bit)
@@ -56,8 +56,8 @@ zero_past zero i = refl
 zero_past (suc n) zero = refl
 zero_past (suc n) (suc i) = zero_past n i
 
-no_bits : (n b : ℕ) → has (replicate n 0) b ≡ false
-unfolding has
+no_bits : (n b : ℕ) → bit_is_set (replicate n 0) b ≡ false
+unfolding bit_is_set
 no_bits n b =
     let none : bit_at (get_or (replicate {A = ℕ} n 0) (b / 8) 0) (b % 8) ≡ 0 = ap (λ (k : ℕ). bit_at k (b % 8)) (zero_past n (b / 8)) ∙ bit_at-zero (b % 8) in
     ap (λ (k : ℕ). k == 1) none
@@ -67,7 +67,7 @@ pub filter_none : (size hashes g : ℕ) → IsFilter size hashes g [] (replicate
 filter_none size hashes g = record { sized = length-replicate size 0; bits = no_bits size }
 
 -- one string more
-pub filter_more : (size hashes g : ℕ) (strings : List (List ℕ)) (s old new : List ℕ) → IsFilter size hashes g strings old → length new ≡ size → ((b : ℕ) → has new b ≡ (has old b || contains b (digest_bits size (hash_count hashes g) (sha256 s)))) → IsFilter size hashes g (strings ++ s ∷ []) new
+pub filter_more : (size hashes g : ℕ) (strings : List (List ℕ)) (s old new : List ℕ) → IsFilter size hashes g strings old → length new ≡ size → ((b : ℕ) → bit_is_set new b ≡ (bit_is_set old b || contains b (digest_bits size (hash_count hashes g) (sha256 s)))) → IsFilter size hashes g (strings ++ s ∷ []) new
 unfolding string_bits
 filter_more size hashes g strings s old new f len more = record {
   sized = len;
@@ -76,7 +76,7 @@ filter_more size hashes g strings s old new f len more = record {
 }
 
 -- one hash more is marked
-pub marked_bits : (old before now : List ℕ) (size : ℕ) (digest : List ℕ) (bit j : ℕ) → ((b : ℕ) → has before b ≡ (has old b || contains b (digest_bits size j digest))) → bit ≡ digest_bit size digest j → ((b : ℕ) → has now b ≡ (has before b || b == bit)) → (b : ℕ) → has now b ≡ (has old b || contains b (digest_bits size (j + 1) digest))
+pub marked_bits : (old before now : List ℕ) (size : ℕ) (digest : List ℕ) (bit j : ℕ) → ((b : ℕ) → bit_is_set before b ≡ (bit_is_set old b || contains b (digest_bits size j digest))) → bit ≡ digest_bit size digest j → ((b : ℕ) → bit_is_set now b ≡ (bit_is_set before b || b == bit)) → (b : ℕ) → bit_is_set now b ≡ (bit_is_set old b || contains b (digest_bits size (j + 1) digest))
 marked_bits old before now size digest bit j so_far e more b =
-    more b ∙ ap (λ (t : Bool). t || b == bit) (so_far b) ∙ or_assoc (has old b) (contains b (digest_bits size j digest)) (b == bit)
-    ∙ ap (λ (n : ℕ). has old b || (contains b (digest_bits size j digest) || b == n)) e ∙ ap (has old b ||◌) (sym (digest_bits_more size j digest b))
+    more b ∙ ap (λ (t : Bool). t || b == bit) (so_far b) ∙ or_assoc (bit_is_set old b) (contains b (digest_bits size j digest)) (b == bit)
+    ∙ ap (λ (n : ℕ). bit_is_set old b || (contains b (digest_bits size j digest) || b == n)) e ∙ ap (bit_is_set old b ||◌) (sym (digest_bits_more size j digest b))

@@ -6,11 +6,11 @@ use Rattle.std.proofs.Math.Bool.{and-true}
 use Rattle.std.proofs.Math.Seq.{drop-nil, drop-append-add, take-append-add}
 use Rattle.std.proofs.lemmas.Bool.{cases_eq, eqb-true, eq-eqb, or_cases, or_left, or_right, false≢true, false_from_ne_true}
 use Rattle.std.proofs.lemmas.Nat.{div-add-mod', div-mul-add, mod-mul-add}
-use Rattle.kd_bloom.specs.Bits.{has, pieces, is_sized, passes, meets, tested}
+use Rattle.kd_bloom.specs.Bits.{bit_is_set, pieces, has_filter_size, passes, meets, tested}
 use Rattle.kd_bloom.specs.Bloom.{is_mask_length, IsMask, Marked, digest_bits, hash_count}
 use Rattle.kd_model.specs.Words.{contains}
 use Rattle.sha2.specs.Sha256.{sha256}
-use Rattle.kd_bloom.specs.Packed.{word, unpacked, Packs, IsWide}
+use Rattle.kd_bloom.specs.Packed.{packed_word, unpacked, Packs, IsWide}
 use Rattle.kd_bloom.proofs.Packs.{length-word, length-unpacked, same_bits, packs_whole}
 use Rattle.kd_bloom.proofs.Marks.{filter_none, filter_more}
 use Rattle.kd_bloom.proofs.Sets.{passes_same}
@@ -34,16 +34,16 @@ unfolding unpacked
 unpacked_drop zero ws = refl
 unpacked_drop (suc k) [] = drop-nil (8 * suc k)
 unpacked_drop (suc k) (w ∷ ws) =
-    let start : 8 * suc k ≡ length (word w) + 8 * k = omega (arith, length-word w) in
-    ap (λ (n : ℕ). drop n (word w ++ unpacked ws)) start ∙ drop-append-add (word w) (unpacked ws) (8 * k) ∙ unpacked_drop k ws
+    let start : 8 * suc k ≡ length (packed_word w) + 8 * k = omega (arith, length-word w) in
+    ap (λ (n : ℕ). drop n (packed_word w ++ unpacked ws)) start ∙ drop-append-add (packed_word w) (unpacked ws) (8 * k) ∙ unpacked_drop k ws
 
 unpacked_take : (k : ℕ) (ws : List ℕ) → take (8 * k) (unpacked ws) ≡ unpacked (take k ws)
 unfolding unpacked
 unpacked_take zero ws = refl
 unpacked_take (suc k) [] = take_all (8 * suc k) [] (omega arith)
 unpacked_take (suc k) (w ∷ ws) =
-    let start : 8 * suc k ≡ length (word w) + 8 * k = omega (arith, length-word w) in
-    ap (λ (n : ℕ). take n (word w ++ unpacked ws)) start ∙ take-append-add (word w) (unpacked ws) (8 * k) ∙ ap (word w ++◌) (unpacked_take k ws)
+    let start : 8 * suc k ≡ length (packed_word w) + 8 * k = omega (arith, length-word w) in
+    ap (λ (n : ℕ). take n (packed_word w ++ unpacked ws)) start ∙ take-append-add (packed_word w) (unpacked ws) (8 * k) ∙ ap (packed_word w ++◌) (unpacked_take k ws)
 
 -- ---- the size of the generations
 
@@ -51,21 +51,21 @@ pub and_same : (b : Bool) → (b && b) ≡ b
 and_same true = refl
 and_same false = refl
 
-pub is_sized-pieces : (n k size : ℕ) (bytes : List ℕ) → length bytes ≡ suc n * size → is_sized k (pieces (suc n) size bytes) ≡ (size == k)
+pub is_sized-pieces : (n k size : ℕ) (bytes : List ℕ) → length bytes ≡ suc n * size → has_filter_size k (pieces (suc n) size bytes) ≡ (size == k)
 is_sized-pieces zero k size bytes len =
     let l : length (take size bytes) ≡ size = length-take-le size bytes (omega arith) in
     ap (λ (m : ℕ). (m == k) && true) l ∙ and-true (size == k)
 is_sized-pieces (suc n) k size bytes len =
     let l : length (take size bytes) ≡ size = length-take-le size bytes (omega arith) in
     let rest : length (drop size bytes) ≡ suc n * size = omega (arith, length-drop size bytes) in
-    ap (λ (m : ℕ). (m == k) && is_sized k (pieces (suc n) size (drop size bytes))) l ∙ ap ((size == k) &&◌) (is_sized-pieces n k size (drop size bytes) rest) ∙ and_same (size == k)
+    ap (λ (m : ℕ). (m == k) && has_filter_size k (pieces (suc n) size (drop size bytes))) l ∙ ap ((size == k) &&◌) (is_sized-pieces n k size (drop size bytes) rest) ∙ and_same (size == k)
 
 -- ---- tests by words
 
 -- a generation of a mask by its words
 pub meets_by_words : (fs f ws : List ℕ) (n w g : ℕ) → Packs fs f → IsWide n w ws → passes (unpacked fs) (unpacked (take w (drop (min (n - 1) g * w) ws))) ≡ meets f g (pieces n (8 * w) (unpacked ws))
 meets_by_words fs f ws n w g p wide =
-    passes_same (unpacked fs) f (unpacked (take w (drop (min (n - 1) g * w) ws))) (tested g (pieces n (8 * w) (unpacked ws))) (same_bits fs f p) (λ b. ap (λ (l : List ℕ). has l b) piece)
+    passes_same (unpacked fs) f (unpacked (take w (drop (min (n - 1) g * w) ws))) (tested g (pieces n (8 * w) (unpacked ws))) (same_bits fs f p) (λ b. ap (λ (l : List ℕ). bit_is_set l b) piece)
   where
     piece : unpacked (take w (drop (min (n - 1) g * w) ws)) ≡ tested g (pieces n (8 * w) (unpacked ws))
     piece =
@@ -76,7 +76,7 @@ meets_by_words fs f ws n w g p wide =
         ∙ sym (get_or-pieces n (8 * w) (unpacked ws) (min (n - 1) g) (omega arith)) ∙ ap (λ (k : ℕ). get_or (pieces n (8 * w) (unpacked ws)) k []) last
 
 -- where each generation has the filter's size, the filter has as many words as a generation
-pub sized_words : (k n w : ℕ) (ws : List ℕ) → IsWide n w ws → is_sized k (pieces n (8 * w) (unpacked ws)) ≡ (8 * w == k)
+pub sized_words : (k n w : ℕ) (ws : List ℕ) → IsWide n w ws → has_filter_size k (pieces n (8 * w) (unpacked ws)) ≡ (8 * w == k)
 sized_words k zero w ws wide = let some = wide.some in absurd (omega arith)
 sized_words k (suc n) w ws wide =
     let count = wide.count in
@@ -184,9 +184,9 @@ masks_none n size hashes = record { each = λ i lt. rw (piece i lt) (filter_none
 -- ---- a test of a mask
 
 -- a filter of the mask's size has as many words as a generation
-pub filter_words : (fs f ws : List ℕ) (mask : List (List ℕ)) (n w : ℕ) → Packs fs f → IsWide n w ws → pieces n (8 * w) (unpacked ws) ≡ mask → is_sized (length f) mask ≡ true → length fs ≡ w
+pub filter_words : (fs f ws : List ℕ) (mask : List (List ℕ)) (n w : ℕ) → Packs fs f → IsWide n w ws → pieces n (8 * w) (unpacked ws) ≡ mask → has_filter_size (length f) mask ≡ true → length fs ≡ w
 filter_words fs f ws mask n w p wide view sized =
-    let same : 8 * w ≡ length f = eqb-true _ _ (sym (sized_words (length f) n w ws wide) ∙ ap (is_sized (length f)) view ∙ sized) in
+    let same : 8 * w ≡ length f = eqb-true _ _ (sym (sized_words (length f) n w ws wide) ∙ ap (has_filter_size (length f)) view ∙ sized) in
     let count = p.packed.count in
     omega arith
 
@@ -216,7 +216,7 @@ marked_none n size hashes digest bytes len = record {
         let fits = row_fits i n size within in
         ap length (get_or-pieces n size bytes i within) ∙ length-take-le size (drop (i * size) bytes) (omega (arith, length-drop (i * size) bytes))
 
-pub marked_more : (size hashes k : ℕ) (digest new : List ℕ) (olds news : List (List ℕ)) → Marked size hashes k digest olds news → k < length olds → length new ≡ size → ((b : ℕ) → has new b ≡ (has (get_or news k []) b || contains b (digest_bits size (hash_count hashes k) digest))) → Marked size hashes (k + 1) digest olds (set news k new)
+pub marked_more : (size hashes k : ℕ) (digest new : List ℕ) (olds news : List (List ℕ)) → Marked size hashes k digest olds news → k < length olds → length new ≡ size → ((b : ℕ) → bit_is_set new b ≡ (bit_is_set (get_or news k []) b || contains b (digest_bits size (hash_count hashes k) digest))) → Marked size hashes (k + 1) digest olds (set news k new)
 marked_more size hashes k digest new olds news m lt len more = record {
   count = length-set news k new ∙ m.count;
   sized = λ i within. each i within (cases_eq i k);
@@ -228,18 +228,18 @@ marked_more size hashes k digest new olds news m lt len more = record {
     each i within (inl same) = let count = m.count in ap length (rw same (get_or-set_same news k new [] (omega arith))) ∙ len
     each i within (inr other) = ap length (get_or-set_other news k i new [] other) ∙ m.sized i within
 
-    bits : (i : ℕ) → i < k + 1 → i < length olds → (b : ℕ) → (i ≡ k) ⊎ (i ≡ k → ⊥) → has (get_or (set news k new) i []) b ≡ (has (get_or olds i []) b || contains b (digest_bits size (hash_count hashes i) digest))
+    bits : (i : ℕ) → i < k + 1 → i < length olds → (b : ℕ) → (i ≡ k) ⊎ (i ≡ k → ⊥) → bit_is_set (get_or (set news k new) i []) b ≡ (bit_is_set (get_or olds i []) b || contains b (digest_bits size (hash_count hashes i) digest))
     bits i before within b (inl same) =
         let count = m.count in
-        rw same (ap (λ (l : List ℕ). has l b) (get_or-set_same news k new [] (omega arith)) ∙ more b ∙ ap (λ (l : List ℕ). has l b || contains b (digest_bits size (hash_count hashes k) digest)) (m.left k (omega arith)))
-    bits i before within b (inr other) = ap (λ (l : List ℕ). has l b) (get_or-set_other news k i new [] other) ∙ m.done i (omega arith) within b
+        rw same (ap (λ (l : List ℕ). bit_is_set l b) (get_or-set_same news k new [] (omega arith)) ∙ more b ∙ ap (λ (l : List ℕ). bit_is_set l b || contains b (digest_bits size (hash_count hashes k) digest)) (m.left k (omega arith)))
+    bits i before within b (inr other) = ap (λ (l : List ℕ). bit_is_set l b) (get_or-set_other news k i new [] other) ∙ m.done i (omega arith) within b
 
 -- the mask of one string more
 pub masks_more : (size hashes k : ℕ) (s digest : List ℕ) (strings olds news : List (List ℕ)) → Marked size hashes k digest olds news → length olds ≤ k → digest ≡ sha256 s → IsMask size hashes strings olds → IsMask size hashes (strings ++ s ∷ []) news
 masks_more size hashes k s digest strings olds news m all e mask = record {
   each = λ i lt. let count = m.count in
       filter_more size hashes i strings s (get_or olds i []) (get_or news i []) (mask.each i (omega arith)) (m.sized i (omega arith))
-      (λ b. m.done i (omega arith) (omega arith) b ∙ ap (λ (d : List ℕ). has (get_or olds i []) b || contains b (digest_bits size (hash_count hashes i) d)) e);
+      (λ b. m.done i (omega arith) (omega arith) b ∙ ap (λ (d : List ℕ). bit_is_set (get_or olds i []) b || contains b (digest_bits size (hash_count hashes i) d)) e);
 }
 
 -- a piece is written in place

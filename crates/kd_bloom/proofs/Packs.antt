@@ -6,28 +6,28 @@ use Rattle.std.proofs.lemmas.List.{append-nil, take_at, take_all, length-take-le
 use Rattle.std.proofs.lemmas.Nat.{le_bytes_8}
 use Rattle.byteorder.specs.Numbers.{length-bytes_low_first}
 use Rattle.byteorder.specs.Endian.{little_number}
-use Rattle.kd_bloom.specs.Bits.{has, passes}
-use Rattle.kd_bloom.specs.Packed.{word, unpacked, IsPacked, Packs}
+use Rattle.kd_bloom.specs.Bits.{bit_is_set, passes}
+use Rattle.kd_bloom.specs.Packed.{packed_word, unpacked, IsPacked, Packs}
 use Rattle.kd_bloom.proofs.Sets.{passes_same}
 
-pub length-word : (w : ℕ) → length (word w) ≡ 8
-unfolding word
+pub length-word : (w : ℕ) → length (packed_word w) ≡ 8
+unfolding packed_word
 length-word w = length-bytes_low_first 0 8 w
 
 pub length-unpacked : (ws : List ℕ) → length (unpacked ws) ≡ 8 * length ws
 unfolding unpacked
 length-unpacked [] = refl
-length-unpacked (w ∷ ws) = let e = length-append (word w) (unpacked ws) in let l = length-word w in let r = length-unpacked ws in omega arith
+length-unpacked (w ∷ ws) = let e = length-append (packed_word w) (unpacked ws) in let l = length-word w in let r = length-unpacked ws in omega arith
 
 -- one word more
-pub unpacked_more : (ws : List ℕ) (w : ℕ) → unpacked (ws ++ w ∷ []) ≡ unpacked ws ++ word w
+pub unpacked_more : (ws : List ℕ) (w : ℕ) → unpacked (ws ++ w ∷ []) ≡ unpacked ws ++ packed_word w
 unfolding unpacked
-unpacked_more [] w = append-nil (word w)
-unpacked_more (x ∷ ws) w = ap (word x ++◌) (unpacked_more ws w) ∙ sym (append_assoc (word x) (unpacked ws) (word w))
+unpacked_more [] w = append-nil (packed_word w)
+unpacked_more (x ∷ ws) w = ap (packed_word x ++◌) (unpacked_more ws w) ∙ sym (append_assoc (packed_word x) (unpacked ws) (packed_word w))
 
 -- eight bytes are the word of their number
-pub word_of : (bytes : List ℕ) (w : ℕ) → length bytes ≡ 8 → ((i : ℕ) → get_or bytes i 0 < 256) → w ≡ little_number 8 bytes → word w ≡ bytes
-unfolding word
+pub word_of : (bytes : List ℕ) (w : ℕ) → length bytes ≡ 8 → ((i : ℕ) → get_or bytes i 0 < 256) → w ≡ little_number 8 bytes → packed_word w ≡ bytes
+unfolding packed_word
 word_of bytes w len fits e = rw e (le_bytes_8 bytes (little_number 8 bytes) len fits (omega arith))
 
 zeros_past : (z i : ℕ) → get_or (replicate {A = ℕ} z 0) i 0 ≡ zero
@@ -53,8 +53,8 @@ packs_whole ws bytes p whole =
     sym (take_all (length bytes) (unpacked ws) all) ∙ p.front
 
 -- the words have the bits of the bytes that they hold
-pub same_bits : (ws bytes : List ℕ) → Packs ws bytes → (b : ℕ) → has (unpacked ws) b ≡ has bytes b
-unfolding has
+pub same_bits : (ws bytes : List ℕ) → Packs ws bytes → (b : ℕ) → bit_is_set (unpacked ws) b ≡ bit_is_set bytes b
+unfolding bit_is_set
 same_bits ws bytes p b = ap (λ (n : ℕ). bit_at n (b % 8) == 1) (go (cases_lt (b / 8) (length bytes)))
   where
     go : (b / 8 < length bytes) ⊎ (length bytes ≤ b / 8) → get_or (unpacked ws) (b / 8) 0 ≡ get_or bytes (b / 8) 0
@@ -85,7 +85,7 @@ filled_below (x ∷ xs) z below zero = below 0
 filled_below (x ∷ xs) z below (suc i) = filled_below xs z (λ j. below (suc j)) i
 
 -- the last word
-pub packs_last : (ws : List ℕ) (w : ℕ) (rest bytes : List ℕ) → unpacked ws ++ rest ≡ bytes → 0 < length rest → length rest < 8 → word w ≡ rest ++ replicate (8 - length rest) 0 → Packs (ws ++ w ∷ []) bytes
+pub packs_last : (ws : List ℕ) (w : ℕ) (rest bytes : List ℕ) → unpacked ws ++ rest ≡ bytes → 0 < length rest → length rest < 8 → packed_word w ≡ rest ++ replicate (8 - length rest) 0 → Packs (ws ++ w ∷ []) bytes
 packs_last ws w rest bytes all some few last =
     packs (ws ++ w ∷ []) bytes (8 - length rest) (omega arith)
     (unpacked_more ws w ∙ ap (unpacked ws ++◌) last ∙ sym (append_assoc (unpacked ws) rest (replicate (8 - length rest) 0)) ∙ ap (λ (l : List ℕ). l ++ replicate (8 - length rest) 0) all)

@@ -7,7 +7,7 @@ use Rattle.std.proofs.lemmas.List.{get_or_past}
 use Rattle.std.proofs.lemmas.Nat.{and_le_r, div-mul-add, mod-mul-add}
 use Rattle.std.proofs.lemmas.Nat.Bits.{bit_at_and, bit_at-zero, bit_at-lt, same_from_bits_below}
 use Rattle.std.specs.Int.Bits.{and_zero_r}
-use Rattle.kd_bloom.specs.Bits.{has, numbers, passes}
+use Rattle.kd_bloom.specs.Bits.{bit_is_set, bit_numbers, passes}
 use Rattle.kd_bloom.specs.Packed.{unpacked, words_fit}
 use Rattle.kd_bloom.proofs.Joined.{AreBelow, bit_of_word}
 
@@ -32,8 +32,8 @@ kept_all p q a (suc n) b all low high here = go (q a) refl all (cases_eq a b) (�
     go false e rest (inr other) later = later rest (omega arith)
 
 -- a bit that is set lies within the bytes
-has_within : (bytes : List ℕ) (b : ℕ) → has bytes b ≡ true → b < 8 * length bytes
-unfolding has
+has_within : (bytes : List ℕ) (b : ℕ) → bit_is_set bytes b ≡ true → b < 8 * length bytes
+unfolding bit_is_set
 has_within bytes b here = go (cases_lt b (8 * length bytes))
   where
     go : (b < 8 * length bytes) ⊎ (8 * length bytes ≤ b) → b < 8 * length bytes
@@ -45,16 +45,16 @@ has_within bytes b here = go (cases_lt b (8 * length bytes))
         absurd (omega arith)
 
 -- where every bit of the mask is one of the filter, it passes
-pub passes_true : (f m : List ℕ) → ((b : ℕ) → has m b ≡ true → has f b ≡ true) → passes f m ≡ true
-unfolding passes numbers
-passes_true f m h = all_kept (has f) (has m) 0 (8 * length m) h
+pub passes_true : (f m : List ℕ) → ((b : ℕ) → bit_is_set m b ≡ true → bit_is_set f b ≡ true) → passes f m ≡ true
+unfolding passes bit_numbers
+passes_true f m h = all_kept (bit_is_set f) (bit_is_set m) 0 (8 * length m) h
 
 -- and only there
-pub passes_each : (f m : List ℕ) → passes f m ≡ true → (b : ℕ) → has m b ≡ true → has f b ≡ true
-unfolding passes numbers
+pub passes_each : (f m : List ℕ) → passes f m ≡ true → (b : ℕ) → bit_is_set m b ≡ true → bit_is_set f b ≡ true
+unfolding passes bit_numbers
 passes_each f m all b here =
     let within = has_within m b here in
-    kept_all (has f) (has m) 0 (8 * length m) b all (omega arith) (omega arith) here
+    kept_all (bit_is_set f) (bit_is_set m) 0 (8 * length m) b all (omega arith) (omega arith) here
 
 pub same_bool : (x y : Bool) → (x ≡ true → y ≡ true) → (y ≡ true → x ≡ true) → x ≡ y
 same_bool true y to from = sym (to refl)
@@ -62,7 +62,7 @@ same_bool false true to from = from refl
 same_bool false false to from = refl
 
 -- passing goes by the sets alone
-pub passes_same : (f f' m m' : List ℕ) → ((b : ℕ) → has f b ≡ has f' b) → ((b : ℕ) → has m b ≡ has m' b) → passes f m ≡ passes f' m'
+pub passes_same : (f f' m m' : List ℕ) → ((b : ℕ) → bit_is_set f b ≡ bit_is_set f' b) → ((b : ℕ) → bit_is_set m b ≡ bit_is_set m' b) → passes f m ≡ passes f' m'
 passes_same f f' m m' ef em =
     same_bool (passes f m) (passes f' m')
     (λ all. passes_true f' m' (λ b here. sym (ef b) ∙ passes_each f m all b (em b ∙ here)))
@@ -94,11 +94,11 @@ lesser_same x y lx ly h = go (cases_eq y 1)
     go (inl one) = let also = h one in omega arith
     go (inr none) = omega arith
 
-word_has : (ws : List ℕ) (b : ℕ) → AreBelow (2 ^ 64) ws → has (unpacked ws) b ≡ (bit_at (get_or ws (b / 64) 0) (b % 64) == 1)
-unfolding has
+word_has : (ws : List ℕ) (b : ℕ) → AreBelow (2 ^ 64) ws → bit_is_set (unpacked ws) b ≡ (bit_at (get_or ws (b / 64) 0) (b % 64) == 1)
+unfolding bit_is_set
 word_has ws b below = ap (λ (n : ℕ). n == 1) (bit_of_word ws b below)
 
-fit_each : (fs ms : List ℕ) → AreBelow (2 ^ 64) fs → AreBelow (2 ^ 64) ms → AllFit fs ms → (b : ℕ) → has (unpacked ms) b ≡ true → has (unpacked fs) b ≡ true
+fit_each : (fs ms : List ℕ) → AreBelow (2 ^ 64) fs → AreBelow (2 ^ 64) ms → AllFit fs ms → (b : ℕ) → bit_is_set (unpacked ms) b ≡ true → bit_is_set (unpacked fs) b ≡ true
 fit_each fs ms bf bm fit b here =
     let m = get_or ms (b / 64) 0 in
     let f = get_or fs (b / 64) 0 in
@@ -106,7 +106,7 @@ fit_each fs ms bf bm fit b here =
     let same : bit_at (bit_and (get_or fs (b / 64) 0) (get_or ms (b / 64) 0)) (b % 64) ≡ bit_at (get_or ms (b / 64) 0) (b % 64) = ap (λ (n : ℕ). bit_at n (b % 64)) (fit (b / 64)) in
     word_has fs b bf ∙ eq-eqb _ 1 (one_in_both _ _ _ (bit_at-lt (get_or fs (b / 64) 0) (b % 64)) (bit_at_and (get_or fs (b / 64) 0) (get_or ms (b / 64) 0) (b % 64)) same one)
 
-each_fit : (fs ms : List ℕ) → AreBelow (2 ^ 64) fs → AreBelow (2 ^ 64) ms → ((b : ℕ) → has (unpacked ms) b ≡ true → has (unpacked fs) b ≡ true) → AllFit fs ms
+each_fit : (fs ms : List ℕ) → AreBelow (2 ^ 64) fs → AreBelow (2 ^ 64) ms → ((b : ℕ) → bit_is_set (unpacked ms) b ≡ true → bit_is_set (unpacked fs) b ≡ true) → AllFit fs ms
 each_fit fs ms bf bm h i =
     same_from_bits_below 64 _ (get_or ms i 0) (let le = and_le_r (get_or fs i 0) (get_or ms i 0) in let lt = bm i in omega arith) (bm i) one_bit
   where
@@ -114,7 +114,7 @@ each_fit fs ms bf bm h i =
     set_in_mask j lt one =
         let q : (i * 64 + j) / 64 ≡ i = div-mul-add i 64 j lt in
         let r : (i * 64 + j) % 64 ≡ j = mod-mul-add i 64 j lt in
-        let mask : has (unpacked ms) (i * 64 + j) ≡ true = word_has ms (i * 64 + j) bm ∙ rw (q, r) (eq-eqb _ 1 one) in
+        let mask : bit_is_set (unpacked ms) (i * 64 + j) ≡ true = word_has ms (i * 64 + j) bm ∙ rw (q, r) (eq-eqb _ 1 one) in
         rw (q, r) at (eqb-true _ _ (sym (word_has fs (i * 64 + j) bf) ∙ h (i * 64 + j) mask))
 
     one_bit : (j : ℕ) → j < 64 → bit_at (bit_and (get_or fs i 0) (get_or ms i 0)) j ≡ bit_at (get_or ms i 0) j

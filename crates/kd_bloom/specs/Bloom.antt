@@ -4,11 +4,12 @@ use Rattle.std.specs.List.{range_with_len, flat_map, Contains}
 use Rattle.byteorder.specs.Endian.{big_number}
 use Rattle.sha2.specs.Sha256.{sha256}
 use Rattle.kd_model.specs.Words.{contains, some_of}
-use Rattle.kd_bloom.specs.Bits.{has}
+use Rattle.kd_bloom.specs.Bits.{bit_is_set}
 
 -- a bus's size of filters, in bytes, is a multiple of 8 from 8 to 512, and it has 1 to 8 hashes
 abbrev pub is_param : ℕ → ℕ → Bool
-is_param size hashes = size % 8 == 0 && nat_le 8 size && nat_le size 512 && nat_le 1 hashes && nat_le hashes 8
+is_param size hashes =
+    size % 8 == 0 && nat_le 8 size && nat_le size 512 && nat_le 1 hashes && nat_le hashes 8
 
 -- a mask has one to four generations
 abbrev pub is_mask_length : ℕ → ℕ → Bool
@@ -28,22 +29,36 @@ digest_bits size count digest = map (digest_bit size digest) (range_with_len 0 c
 
 -- the numbers of a string in a generation
 unfoldable pub string_bits : ℕ → ℕ → ℕ → List ℕ → List ℕ
-string_bits size hashes generation string = digest_bits size (hash_count hashes generation) (sha256 string)
+string_bits size hashes generation string =
+    digest_bits size (hash_count hashes generation) (sha256 string)
+
+-- the bits of the new bytes are those of the old ones and these
+abbrev pub AddsBits : List ℕ → List ℕ → List ℕ → Type 0
+AddsBits numbers old new =
+    (b : ℕ) → bit_is_set new b ≡ (bit_is_set old b || contains b numbers)
 
 -- the bytes are the filter of these strings: its set is the union of theirs
-pub record IsFilter (size hashes generation : ℕ) (strings : List (List ℕ)) (bytes : List ℕ) : Type 0 where
-  pub sized : length bytes ≡ size
-  pub bits : (b : ℕ) → has bytes b ≡ contains b (flat_map (string_bits size hashes generation) strings)
+pub record IsFilter (size hashes generation : ℕ) (strings : List (List ℕ)) (bytes : List ℕ) : Type 0
+  where
+    pub sized : length bytes ≡ size
+    pub bits :
+        (b : ℕ)
+        → bit_is_set bytes b ≡ contains b (flat_map (string_bits size hashes generation) strings)
 
 -- the generations are the mask of these strings: each is their filter of that generation
-pub record IsMask (size hashes : ℕ) (strings : List (List ℕ)) (generations : List (List ℕ)) : Type 0 where
-  pub each : (i : ℕ) → i < length generations → IsFilter size hashes i strings (get_or generations i [])
+pub record IsMask (size hashes : ℕ) (strings : List (List ℕ)) (generations : List (List ℕ)) : Type 0
+  where
+    pub each :
+        (i : ℕ) → i < length generations → IsFilter size hashes i strings (get_or generations i [])
 
 -- the first k generations have the bits of a digest too, the others are as they were
 pub record Marked (size hashes k : ℕ) (digest : List ℕ) (olds news : List (List ℕ)) : Type 0 where
   pub count : length news ≡ length olds
   pub sized : (i : ℕ) → i < length olds → length (get_or news i []) ≡ size
-  pub done : (i : ℕ) → i < k → i < length olds → (b : ℕ) → has (get_or news i []) b ≡ (has (get_or olds i []) b || contains b (digest_bits size (hash_count hashes i) digest))
+  pub done :
+      (i : ℕ) → i < k → i < length olds
+      → AddsBits (digest_bits size (hash_count hashes i) digest)
+      (get_or olds i []) (get_or news i [])
   pub left : (i : ℕ) → k ≤ i → get_or news i [] ≡ get_or olds i []
 
 -- every string of the one list is in the other

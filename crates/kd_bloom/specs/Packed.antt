@@ -4,12 +4,12 @@ use Rattle.std.specs.List.{flat_map, list_all, zip}
 use Rattle.byteorder.specs.Endian.{little_bytes}
 
 -- a word's eight bytes, the lowest first
-unfoldable pub word : ℕ → List ℕ
-word w = little_bytes 8 w
+unfoldable pub packed_word : ℕ → List ℕ
+packed_word w = little_bytes 8 w
 
 -- the bytes of words, each word's lowest first
 unfoldable pub unpacked : List ℕ → List ℕ
-unpacked words = flat_map word words
+unpacked words = flat_map packed_word words
 
 -- the words hold so many bytes, and zeros after them
 pub record IsPacked (size : ℕ) (words : List ℕ) : Type 0 where

@@ -23,7 +23,13 @@ impl Model for FilterBuilder {
 
     ghost Value = { FilterSoFar };
 
-    ghost view = { λ f. record { size = f.param.size; hashes = f.param.hashes; generation = f.generation; bytes = f.bytes.items } };
+    ghost view = { λ f.
+        record {
+          size = f.param.size;
+          hashes = f.param.hashes;
+          generation = f.generation;
+          bytes = f.bytes.items;
+        } };
 
     ghost invariant = { λ f. length f.bytes.items ≡ f.param.size };
 }
@@ -31,7 +37,9 @@ impl Model for FilterBuilder {
 impl FilterBuilder {
     /// A filter of no string.
     pub fn make(alloc: Global, param: Param, generation: u64) -> Result<FilterBuilder, AllocError>
-        ensures shape { IfOk result (λ f. (f.size ≡ param.size) × (f.hashes ≡ param.hashes) × (f.generation ≡ generation)) }
+        ensures shape { IfOk result (λ f.
+            (f.size ≡ param.size) × (f.hashes ≡ param.hashes)
+            × (f.generation ≡ generation)) }
         ensures empty { IfOk result (λ f. HasStrings f []) }
     {
         Ok(FilterBuilder {
@@ -44,7 +52,8 @@ impl FilterBuilder {
     /// Adds a string.
     pub fn add(&mut self, string: &[u8])
         ensures shape { self.new ≡ record self.old { bytes = self.new.bytes } }
-        ensures one_more { (strings : List (List ℕ)) → HasStrings self.old strings → HasStrings self.new (strings ++ string.now ∷ []) }
+        ensures one_more { (strings : List (List ℕ)) → HasStrings self.old strings
+            → HasStrings self.new (strings ++ string.now ∷ []) }
     {
         let digest = Sha256::digest(string);
         let count = hash_count(self.param.hashes, self.generation);

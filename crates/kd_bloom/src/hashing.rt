@@ -1,9 +1,8 @@
 //! The bits of a string.
 
 ghost use Rattle.std.specs.Prelude.{◌≡◌, ◌<◌, ◌≤◌, ◌*◌, ◌||◌, ◌==◌, ℕ, length};
-ghost use Rattle.kd_bloom.specs.Bits.{has, pieces};
-ghost use Rattle.kd_bloom.specs.Bloom.{Marked, digest_bits, hash_count};
-ghost use Rattle.kd_model.specs.Words.{contains};
+ghost use Rattle.kd_bloom.specs.Bits.{bit_is_set, pieces};
+ghost use Rattle.kd_bloom.specs.Bloom.{AddsBits, Marked, digest_bits, hash_count};
 
 use crate::param::Param;
 use byteorder::{BigEndian, ByteOrder};
@@ -21,7 +20,7 @@ pub(crate) fn mark(bytes: &mut [u8], digest: &[u8; 32], count: usize)
     requires few { length bytes.old ≤ 512 }
     requires words { count ≤ 8 }
     ensures length { length bytes.new ≡ length bytes.old }
-    ensures bits { (b : ℕ) → has bytes.new b ≡ (has bytes.old b || contains b (digest_bits (length bytes.old) count digest.now)) }
+    ensures bits { AddsBits (digest_bits (length bytes.old) count digest.now) bytes.old bytes.new }
 {
     let bits = 8 * bytes.len() as u32;
     'hashes: for j in 0..count {
@@ -40,7 +39,8 @@ pub(crate) fn mark_generations(
     requires joined { length bytes.old ≡ generations * param.size }
     requires few { generations ≤ 4 }
     ensures length { length bytes.new ≡ length bytes.old }
-    ensures marked { Marked param.size param.hashes generations digest.now (pieces generations param.size bytes.old) (pieces generations param.size bytes.new) }
+    ensures marked { Marked param.size param.hashes generations digest.now
+        (pieces generations param.size bytes.old) (pieces generations param.size bytes.new) }
 {
     let size = param.size as usize;
     'generations: for generation in 0..generations {
@@ -54,7 +54,7 @@ pub(crate) fn mark_generations(
 fn set_bit(bytes: &mut [u8], bit: usize)
     requires { bit < 8 * length bytes.old }
     ensures length { length bytes.new ≡ length bytes.old }
-    ensures bits { (b : ℕ) → has bytes.new b ≡ (has bytes.old b || b == bit) }
+    ensures bits { (b : ℕ) → bit_is_set bytes.new b ≡ (bit_is_set bytes.old b || b == bit) }
 {
     bytes[bit / 8] |= 1 << (bit % 8);
 }

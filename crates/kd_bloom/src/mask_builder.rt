@@ -26,16 +26,24 @@ impl Model for MaskBuilder {
 
     ghost Value = { MaskSoFar };
 
-    ghost view = { λ m. record { size = m.param.size; hashes = m.param.hashes; generations = pieces m.generations m.param.size m.bytes.items } };
+    ghost view = { λ m.
+        record {
+          size = m.param.size;
+          hashes = m.param.hashes;
+          generations = pieces m.generations m.param.size m.bytes.items;
+        } };
 
-    ghost invariant = { λ m. (length m.bytes.items ≡ m.generations * m.param.size) × (m.generations ≤ 4) };
+    ghost invariant = { λ m.
+        (length m.bytes.items ≡ m.generations * m.param.size) × (m.generations ≤ 4) };
 }
 
 impl MaskBuilder {
     /// A mask of one to four generations that asks for no string.
     pub fn make(alloc: Global, param: Param, generations: u32) -> Result<MaskBuilder, AllocError>
         requires { (1 ≤ generations) × (generations ≤ 4) }
-        ensures shape { IfOk result (λ m. (m.size ≡ param.size) × (m.hashes ≡ param.hashes) × (length m.generations ≡ generations)) }
+        ensures shape { IfOk result (λ m.
+            (m.size ≡ param.size) × (m.hashes ≡ param.hashes)
+            × (length m.generations ≡ generations)) }
         ensures empty { IfOk result (λ m. MasksStrings m []) }
     {
         let generations = generations as usize;
@@ -48,8 +56,10 @@ impl MaskBuilder {
 
     /// Adds a string.
     pub fn add(&mut self, string: &[u8])
-        ensures shape { (self.new.size ≡ self.old.size) × (self.new.hashes ≡ self.old.hashes) × (length self.new.generations ≡ length self.old.generations) }
-        ensures one_more { (strings : List (List ℕ)) → MasksStrings self.old strings → MasksStrings self.new (strings ++ string.now ∷ []) }
+        ensures shape { (self.new.size ≡ self.old.size) × (self.new.hashes ≡ self.old.hashes)
+            × (length self.new.generations ≡ length self.old.generations) }
+        ensures one_more { (strings : List (List ℕ)) → MasksStrings self.old strings
+            → MasksStrings self.new (strings ++ string.now ∷ []) }
     {
         let digest = Sha256::digest(string);
         mark_generations(&mut self.bytes, self.param, self.generations, &digest);
@@ -57,7 +67,8 @@ impl MaskBuilder {
 
     /// The mask's bytes: its generations joined, the first one first.
     pub fn finish(self) -> Vec<u8>
-        ensures joined { pieces (length self.generations) self.size result.items ≡ self.generations }
+        ensures joined { pieces (length self.generations) self.size result.items
+            ≡ self.generations }
         ensures length { length result.items ≡ length self.generations * self.size }
     {
         self.bytes

@@ -6,7 +6,8 @@ ghost use Rattle.kd_bloom.specs.Bloom.{is_param};
 /// What all filters and masks of a bus have in common, as its creator chose it.
 #[derive(Clone, Copy, Debug, PartialEq, Eq)]
 pub struct Param {
-    /// The bytes of a filter: a multiple of 8, so that it is a number of whole words, from 8 to 512.
+    /// The bytes of a filter: a multiple of 8, so that it is a number of whole words, from 8 to
+    /// 512.
     pub size: u32,
     /// How many bits a string sets in generation 0: 1 to 8, since a SHA-256 digest has eight words.
     pub hashes: u32,

@@ -2,7 +2,7 @@
 
 ghost use Rattle.std.specs.Prelude.{◌≡◌, ◌≤◌, ◌++◌, ◌-◌, length, replicate, IfOk};
 ghost use Rattle.kd_bloom.specs.Bits.{passes};
-ghost use Rattle.kd_bloom.specs.Packed.{Packs, word, blocks_fit, unpacked, words_fit};
+ghost use Rattle.kd_bloom.specs.Packed.{Packs, packed_word, blocks_fit, unpacked, words_fit};
 
 use byteorder::{ByteOrder, LittleEndian};
 use std::alloc::{AllocError, Global};
@@ -30,7 +30,7 @@ pub(crate) fn pack(alloc: Global, bytes: &[u8]) -> Result<Vec<u64>, AllocError>
 /// A word that holds fewer than eight bytes.
 fn last_word(bytes: &[u8]) -> u64
     requires { length bytes.now ≤ 8 }
-    ensures { word result ≡ bytes.now ++ replicate (8 - length bytes.now) 0 }
+    ensures { packed_word result ≡ bytes.now ++ replicate (8 - length bytes.now) 0 }
 {
     let mut filled = [0u8; 8];
     filled[..bytes.len()].copy_from_slice(bytes);
@@ -60,7 +60,8 @@ fn blocks_cover(filter: &[[u64; BLOCK]], mask: &[[u64; BLOCK]]) -> bool
     true
 }
 
-/// The same of one block, with no way out between its words, so that the compiler may test several at once.
+/// The same of one block, with no way out between its words, so that the compiler may test several
+/// at once.
 fn block_covers(filter: &[u64; BLOCK], mask: &[u64; BLOCK]) -> bool
     ensures { result ≡ words_fit filter.now mask.now }
 {

@@ -4,10 +4,15 @@ use Rattle.std.proofs.Common.{refl, sym, subst, ap, ◌∙◌, arith}
 use Rattle.std.proofs.lemmas.List.{length-map}
 use Rattle.std.proofs.Math.Seq.{take-append_seam}
 use Rattle.std.proofs.lemmas.Bool.{true≢false}
-use Rattle.kd_world.specs.World.{World, Event, all_legal, legal, new_world, runs, step, says}
-use Rattle.kd_core.specs.Running.{Running, is_run, may, said, stepped}
-use Rattle.kd_world.specs.Agreed.{HandsAgree, IsReached}
+use Rattle.kd_model.proofs.Truth.{left_true}
+use Rattle.kd_world.specs.State.{World, new_world}
+use Rattle.kd_world.specs.Legal.{Event, legal}
+use Rattle.kd_world.specs.Step.{step}
+use Rattle.kd_world.specs.Runs.{all_legal, world_after, IsReached}
+use Rattle.kd_world.specs.Answers.{says}
 use Rattle.kd_world.specs.Tie.{IsOffered, IsOfferedSoFar}
+use Rattle.kd_world.specs.Agreed.{HandsAgree}
+use Rattle.kd_core.specs.Running.{Running, is_run, may, said, stepped}
 use Rattle.kd_world.proofs.Reached.{hands_always_agree, reached_on}
 use Rattle.kd_world.proofs.Tied.{addressed_is_offered, offered_so_far}
 use Rattle.kd_core.specs.Along.{barred_by, first_barred, ran, said_along}
@@ -64,8 +69,8 @@ taken_before f xs y ys all e =
     ap (λ l. take (length xs) (map f l)) (sym e) ∙ ap (take (length xs)) (map_both f xs y ys)
     ∙ ap (λ n. take n (map f xs ++ f y ∷ map f ys)) (sym (length-map xs f)) ∙ take-append_seam (map f xs) (f y ∷ map f ys)
 
-pub runs_along : (r : Running) (es : List Event) → (ran r es).world ≡ runs r.world es
-unfolding ran runs stepped
+pub runs_along : (r : Running) (es : List Event) → (ran r es).world ≡ world_after r.world es
+unfolding ran world_after stepped
 runs_along r [] = refl
 runs_along r (e ∷ es) = runs_along (stepped r e) es
 
@@ -86,14 +91,10 @@ pub either_way : {X Y A B : Type 0} (C : Type 0) (r : Result X Y) → OnOk r A �
 either_way C (Ok x) a b f g = f a
 either_way C (Err e) a b f g = g b
 
-may_legal : (a b : Bool) → a && b ≡ true → a ≡ true
-may_legal true b h = refl
-may_legal false b h = absurd (true≢false (sym h))
-
 -- what may happen leads on from a world that legal events led to
 pub reached_by : (w : World) (e : Event) → may w e ≡ true → IsReached w → IsReached (step w e)
 unfolding may
-reached_by w e m = reached_on w e (may_legal (legal w e) (is_run w e) m)
+reached_by w e m = reached_on w e (left_true (legal w e) (is_run w e) m)
 
 pub reached_along : (r : Running) (es : List Event) → first_barred r.world es ≡ None → IsReached r.world → IsReached (ran r es).world × HandsAgree (ran r es).world
 unfolding first_barred ran stepped
@@ -106,7 +107,7 @@ pub offered_along : (creator size hashes c : ℕ) (r : Running) (es : List Event
     → IsOffered creator size hashes c es
 offered_along creator size hashes c r es e f n =
     let w : World = new_world creator size hashes in
-    let free : IsNone ((runs w es).holder) = subst (λ (x : World). IsNone x.holder) (runs_along r es ∙ ap (λ x. runs x es) e) n in
+    let free : IsNone ((world_after w es).holder) = subst (λ (x : World). IsNone x.holder) (runs_along r es ∙ ap (λ x. world_after x es) e) n in
     addressed_is_offered creator size hashes es c (legal_along w es (ap (λ x. first_barred x es) (sym e) ∙ f)) free
 
 -- and at any time

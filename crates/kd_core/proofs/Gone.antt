@@ -3,19 +3,24 @@ use Rattle.std.specs.Prelude.{ℕ, ◌<◌, ◌+◌, ◌-◌, ◌^◌, ◌++◌,
 use Rattle.std.specs.List.{AllByRecursion}
 use Rattle.std.proofs.Common.{◌≡◌, refl, sym, ap, ◌∙◌, subst, arith}
 use Rattle.kd_wire.specs.declared.reply.Reply.{Reply}
-use Rattle.kd_pool.specs.State.{Hold}
+use Rattle.kd_acts.specs.State.{Hold}
 use Rattle.kd_desk.specs.Drafts.{Fits}
 use Rattle.kd_desk.specs.Outs.{ended_on}
-use Rattle.kd_desk.specs.State.{Desk}
-use Rattle.kd_desk.specs.Step.{Ended}
+use Rattle.kd_commands.specs.State.{Desk}
+use Rattle.kd_commands.specs.Step.{Ended}
 use Rattle.kd_core.specs.declared.event.Answer.TheVariants as answer
-use Rattle.kd_core.specs.declared.holder.Holder as holder
+use Rattle.kd_holds.specs.declared.holder.Holder as holder
 use Rattle.kd_core.specs.declared.world.World.TheInside.{Inside}
-use Rattle.kd_core.specs.Counts.{IsBelow}
+use Rattle.kd_holds.specs.Counts.{IsBelow}
 use Rattle.kd_core.specs.Held.{IsHeld, IsWhole, holder_of, world_of}
-use Rattle.kd_core.specs.Placed.{HasKept, all_kept, becomes, turned}
+use Rattle.kd_holds.specs.Placed.{HasKept, all_kept}
+use Rattle.kd_core.specs.Turned.{becomes, turned}
 use Rattle.kd_core.specs.Running.{Running, may, said, stepped}
-use Rattle.kd_world.specs.World.{Caller, caller_at, end_of, leave, left_caller, says}
+use Rattle.kd_world.specs.State.{Caller, caller_at}
+use Rattle.kd_world.specs.Holding.{command_end}
+use Rattle.kd_world.specs.Legal.{leave}
+use Rattle.kd_world.specs.Callers.{left_caller}
+use Rattle.kd_world.specs.Answers.{says}
 use Rattle.kd_core.proofs.Left.{after_leaving, caller_left, ends_as, ids_by_one, leaves_held, says_left}
 use Rattle.kd_core.proofs.Seen.{held_in, inner}
 use Rattle.kd_core.proofs.Wholes.{more_below, with_steps}
@@ -49,7 +54,7 @@ left_so w r n h k d after pools old kept me v has none same at pend desk turn =
     let pend = pend ∙ ap (λ (hs : List Hold). record old { pendings = old.pendings ++ all_kept hs h.holder.plan.contents h.holder.plan.parts h.holder.outs.items }) same in
     let me_is : me ≡ left_caller (inner w) (holder_of h.holder) (caller_at (inner w) n) =
     caller_left (inner w) h.holder k d old kept me h.held has pend desk turn ∙ ap (left_caller (inner w) (holder_of h.holder)) at in
-    let desk_is : d ≡ (end_of (inner w) (holder_of h.holder)).next = desk ∙ ap (λ (e : Ended). e.next) (sym (ends_as w.desk h.holder k h.held has)) in
+    let desk_is : d ≡ (command_end (inner w) (holder_of h.holder)).next = desk ∙ ap (λ (e : Ended). e.next) (sym (ends_as w.desk h.holder k h.held has)) in
     ap (λ (o : Option holder.Holder). with_steps (w.steps + 1) (record { desk = d; holder = option_map holder_of o; pools = w.pools.items; callers = set w.callers.items (n - 1) me })) none
     ∙ ap (λ (x : Caller). with_steps (w.steps + 1) (record { desk = d; holder = None; pools = w.pools.items; callers = set w.callers.items (n - 1) x })) me_is
     ∙ ap (λ (x : Desk). with_steps (w.steps + 1) (record { desk = x; holder = None; pools = w.pools.items; callers = set w.callers.items (n - 1) (left_caller (inner w) (holder_of h.holder) (caller_at (inner w) n)) })) desk_is

@@ -4,16 +4,18 @@ use Rattle.std.specs.Prelude.{option_map}
 use Rattle.kd_types.specs.declared.refusal.Refusal.{Refusal}
 use Rattle.kd_desk.specs.Drafts.{drafted, parts_with, seat_in}
 use Rattle.kd_desk.specs.Outs.{answers_of}
-use Rattle.kd_pool.specs.State.{Answer}
-use Rattle.kd_desk.specs.Plans.{Plan}
-use Rattle.kd_desk.specs.Send.{Part}
-use Rattle.kd_desk.specs.Step.{first_ends, next_part, parts_in}
-use Rattle.kd_core.specs.declared.holder.Holder as code
-use Rattle.kd_core.specs.Lists.{first_of}
-use Rattle.kd_core.specs.Ahead.{part_ahead}
-use Rattle.kd_world.specs.World.{World, planned, parts_planned, next_visit}
+use Rattle.kd_acts.specs.State.{Answer}
+use Rattle.kd_commands.specs.Plans.{Plan, Part}
+use Rattle.kd_commands.specs.Visits.{first_ends, next_part}
+use Rattle.kd_commands.specs.Step.{parts_in}
+use Rattle.kd_holds.specs.declared.holder.Holder as code
+use Rattle.kd_holds.specs.Lists.{first_of}
+use Rattle.kd_holds.specs.Ahead.{part_ahead}
+use Rattle.kd_world.specs.State.{World}
+use Rattle.kd_world.specs.Planner.{planned, parts_planned}
+use Rattle.kd_world.specs.Holding.{next_visit}
 use Rattle.kd_core.specs.Held.{holder_of}
-use Rattle.kd_core.proofs.Ahead.{next_is_ahead, seat_ahead}
+use Rattle.kd_holds.proofs.Ahead.{next_is_ahead, seat_ahead}
 
 seat_if : (h : code.Holder) (ends : Option Refusal)
     → option_map (λ (p : Part). p.seat) (elim ends [ Some r ↦ None | None ↦ next_part [] (parts_with h.plan.contents h.plan.parts) (answers_of h.outs.items) ])

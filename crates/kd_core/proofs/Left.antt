@@ -4,29 +4,37 @@ use Rattle.std.proofs.Common.{◌≡◌, refl, sym, ap, ◌∙◌, arith}
 use Rattle.std.proofs.lemmas.Bool.{true≢false}
 use Rattle.kd_types.specs.declared.creds.Creds.{Creds}
 use Rattle.kd_types.specs.declared.refusal.Refusal.{Refusal}
-use Rattle.kd_pool.specs.State.{Answer, Content}
+use Rattle.kd_acts.specs.State.{Answer, Content}
 use Rattle.kd_desk.specs.declared.change.Change.{Change}
 use Rattle.kd_desk.specs.declared.change.Change.TheVariants as change
 use Rattle.kd_desk.specs.declared.part.Out.{Out}
 use Rattle.kd_desk.specs.declared.part.Out.TheVariants as out
 use Rattle.kd_desk.specs.declared.part.Part as code
 use Rattle.kd_desk.specs.declared.part.Part.TheVariants as part
-use Rattle.kd_desk.specs.declared.who.Who.{Who}
+use Rattle.kd_commands.specs.declared.who.Who.{Who}
 use Rattle.kd_desk.specs.Drafts.{Draft, applied, drafted, part_with, parts_with}
-use Rattle.kd_desk.specs.Leaving.{without_conns}
-use Rattle.kd_desk.specs.Naming.{with_claim, without_claim}
-use Rattle.kd_desk.specs.Outs.{answer_of, answers_of, end, ended_on, stops}
-use Rattle.kd_desk.specs.Plans.{Plan}
-use Rattle.kd_desk.specs.State.{Desk}
-use Rattle.kd_desk.specs.Step.{Ended, ended, ended_by, first_ends, parts_in}
+use Rattle.kd_commands.specs.State.{Desk}
+use Rattle.kd_commands.specs.Plans.{Plan}
+use Rattle.kd_commands.specs.Leaving.{without_conns}
+use Rattle.kd_commands.specs.Names.{with_claim, without_claim}
+use Rattle.kd_commands.specs.Visits.{first_ends}
+use Rattle.kd_commands.specs.Step.{Ended, ended, ended_by, parts_in}
+use Rattle.kd_desk.specs.Outs.{out_answer, answers_of, end, ended_on, stops}
 use Rattle.kd_desk.proofs.Ending.{ends_where_it_stops}
-use Rattle.kd_core.specs.declared.holder.Holder as holder
+use Rattle.kd_holds.specs.declared.holder.Holder as holder
 use Rattle.kd_core.specs.Held.{IsHeld, holder_of}
-use Rattle.kd_world.specs.Pendings.{Pending}
-use Rattle.kd_core.specs.Placed.{HasKept, IsSpent, all_kept, becomes, kept, reserved, turned}
-use Rattle.kd_world.specs.World.{Caller, Holder, World, act_of, caller_at, callers_after, creds_after, desk_after, desk_end, end_of, hand_after, holder_after, is_caller, kind_after, leave, left, left_caller, legal, next_visit, parts_planned, pending_made, pendings_made, pools_after, says, step, taken}
+use Rattle.kd_world.specs.State.{Pending, Caller, Holder, World, caller_at}
+use Rattle.kd_world.specs.Planner.{desk_end, parts_planned}
+use Rattle.kd_world.specs.Holding.{command_end, next_visit}
+use Rattle.kd_world.specs.Legal.{is_caller, leave, legal}
+use Rattle.kd_world.specs.Pools.{act_of, pools_after}
+use Rattle.kd_world.specs.Callers.{callers_after, creds_after, hand_after, kind_after, left_caller, pending_made, pendings_made}
+use Rattle.kd_world.specs.Step.{desk_after, holder_after, step}
+use Rattle.kd_world.specs.Answers.{left, says, taken}
+use Rattle.kd_holds.specs.Placed.{HasKept, IsSpent, all_kept, pending_kept, offer_placed}
+use Rattle.kd_core.specs.Turned.{becomes, turned}
 use Rattle.kd_core.specs.Running.{may}
-use Rattle.kd_core.proofs.Takes.{left_holds, right_holds}
+use Rattle.kd_model.proofs.Truth.{left_true, right_true}
 
 -- ---- who leaves
 
@@ -34,12 +42,12 @@ use Rattle.kd_core.proofs.Takes.{left_holds, right_holds}
 pub leaves_held : (w : World) (n : ℕ) → IsTrue (may w (leave n)) → w.holder ≡ None → ⊥
 unfolding may legal
 leaves_held w n m e =
-    let h = right_holds (is_caller n) _ (left_holds (legal w (leave n)) true m) in
+    let h = right_true (is_caller n) _ (left_true (legal w (leave n)) true m) in
     true≢false (sym (ap (λ (o : Option Holder). elim o [ None ↦ false | Some h ↦ h.caller == n && is_none (next_visit w h) ]) (sym e) ∙ h))
 
 -- ---- what is pending then
 
-one_pending : (w : World) (c : Option Content) (p : code.Part) (o : Out) → pending_made w (part_with c p).seat (part_with c p).act (answer_of o) ≡ kept w.pools c (reserved p o)
+one_pending : (w : World) (c : Option Content) (p : code.Part) (o : Out) → pending_made w (part_with c p).seat (part_with c p).act (out_answer o) ≡ pending_kept w.pools c (offer_placed p o)
 one_pending w c (part.Raise seat size) o = refl
 one_pending w c (part.Close seat force) o = refl
 one_pending w c (part.Offer seat user len from must) out.Done = refl
@@ -55,8 +63,8 @@ pendings_are w [] [] outs = refl
 pendings_are w (c ∷ cs) [] outs = refl
 pendings_are w [] (p ∷ ps) [] = refl
 pendings_are w (c ∷ cs) (p ∷ ps) [] = refl
-pendings_are w [] (p ∷ ps) (o ∷ outs) = ap (λ xs. xs ++ pendings_made w (parts_with [] ps) (answers_of outs)) (one_pending w None p o) ∙ ap (kept w.pools None (reserved p o) ++◌) (pendings_are w [] ps outs)
-pendings_are w (c ∷ cs) (p ∷ ps) (o ∷ outs) = ap (λ xs. xs ++ pendings_made w (parts_with cs ps) (answers_of outs)) (one_pending w c p o) ∙ ap (kept w.pools c (reserved p o) ++◌) (pendings_are w cs ps outs)
+pendings_are w [] (p ∷ ps) (o ∷ outs) = ap (λ xs. xs ++ pendings_made w (parts_with [] ps) (answers_of outs)) (one_pending w None p o) ∙ ap (pending_kept w.pools None (offer_placed p o) ++◌) (pendings_are w [] ps outs)
+pendings_are w (c ∷ cs) (p ∷ ps) (o ∷ outs) = ap (λ xs. xs ++ pendings_made w (parts_with cs ps) (answers_of outs)) (one_pending w c p o) ∙ ap (pending_kept w.pools c (offer_placed p o) ++◌) (pendings_are w cs ps outs)
 
 -- ---- how the command ends
 
@@ -107,14 +115,14 @@ ids_by_one d p outs = go (first_ends (parts_with p.contents p.parts) (answers_of
 
 pub after_leaving :
     (w : World) (n : ℕ) (h : Holder) → w.holder ≡ Some h
-    → step w (leave n) ≡ record { desk = (end_of w h).next; holder = None; pools = w.pools; callers = set w.callers (n - 1) (left_caller w h (caller_at w n)) }
+    → step w (leave n) ≡ record { desk = (command_end w h).next; holder = None; pools = w.pools; callers = set w.callers (n - 1) (left_caller w h (caller_at w n)) }
 unfolding desk_after holder_after pools_after callers_after act_of
 after_leaving w n h e =
-    ap (λ (o : Option Holder). record { desk = elim o [ None ↦ w.desk | Some h ↦ (end_of w h).next ]; holder = None; pools = w.pools; callers = elim o [ None ↦ w.callers | Some h ↦ set w.callers (n - 1) (left_caller w h (caller_at w n)) ] }) e
+    ap (λ (o : Option Holder). record { desk = elim o [ None ↦ w.desk | Some h ↦ (command_end w h).next ]; holder = None; pools = w.pools; callers = elim o [ None ↦ w.callers | Some h ↦ set w.callers (n - 1) (left_caller w h (caller_at w n)) ] }) e
 
-pub says_left : (w : World) (n : ℕ) (h : Holder) → w.holder ≡ Some h → says w (leave n) ≡ left (end_of w h).reply
+pub says_left : (w : World) (n : ℕ) (h : Holder) → w.holder ≡ Some h → says w (leave n) ≡ left (command_end w h).reply
 unfolding says
-says_left w n h e = ap (λ (o : Option Holder). elim o [ None ↦ taken | Some h ↦ left (end_of w h).reply ]) e
+says_left w n h e = ap (λ (o : Option Holder). elim o [ None ↦ taken | Some h ↦ left (command_end w h).reply ]) e
 
 -- a caller by the end of its command
 abbrev with_end : Caller → Ended → Creds → List Pending → Caller
@@ -132,6 +140,6 @@ caller_left w h k d old kept me held has pend desk turn =
     turn ∙ ap (turned d (record { creds = k.creds; member = becomes k.plan k.who.member k.outs.items })) pend
     ∙ ap (λ (x : Desk). with_end old (record { reply = (ended_on w.desk k.plan k.outs.items).reply; next = x; becomes = becomes k.plan k.who.member k.outs.items }) k.creds (all_kept w.pools h.plan.contents h.plan.parts h.outs.items)) desk
     ∙ ap (λ (e : Ended). with_end old e k.creds (all_kept w.pools h.plan.contents h.plan.parts h.outs.items)) (sym (ends_as w.desk h k held has))
-    ∙ ap (λ c. with_end old (end_of w (holder_of h)) c (all_kept w.pools h.plan.contents h.plan.parts h.outs.items)) (has.creds ∙ held.creds)
-    ∙ ap (with_end old (end_of w (holder_of h)) (creds_after h.who.creds h.command.value)) (sym (pendings_are w h.plan.contents h.plan.parts h.outs.items))
-    ∙ ap (λ (r : Result Plan Refusal). with_end old (end_of w (holder_of h)) (creds_after h.who.creds h.command.value) (pendings_made w (parts_in r) (answers_of h.outs.items))) (sym held.plan)
+    ∙ ap (λ c. with_end old (command_end w (holder_of h)) c (all_kept w.pools h.plan.contents h.plan.parts h.outs.items)) (has.creds ∙ held.creds)
+    ∙ ap (with_end old (command_end w (holder_of h)) (creds_after h.who.creds h.command.value)) (sym (pendings_are w h.plan.contents h.plan.parts h.outs.items))
+    ∙ ap (λ (r : Result Plan Refusal). with_end old (command_end w (holder_of h)) (creds_after h.who.creds h.command.value) (pendings_made w (parts_in r) (answers_of h.outs.items))) (sym held.plan)

@@ -2,12 +2,13 @@
 use Rattle.std.proofs.Common.{◌≡◌, Option, Some, None, ap, ◌∙◌, subst}
 use Rattle.std.specs.Prelude.{option_map}
 use Rattle.kd_desk.specs.Drafts.{seat_in}
-use Rattle.kd_desk.specs.Send.{Part}
-use Rattle.kd_core.specs.declared.holder.Holder as code
+use Rattle.kd_commands.specs.Plans.{Part}
+use Rattle.kd_holds.specs.declared.holder.Holder as code
 use Rattle.kd_core.specs.declared.world.World.TheInside.{Inside}
-use Rattle.kd_core.specs.Ahead.{part_ahead}
-use Rattle.kd_world.specs.World.{World, next_visit}
-use Rattle.kd_core.specs.Running.{next_seat}
+use Rattle.kd_holds.specs.Ahead.{part_ahead}
+use Rattle.kd_world.specs.State.{World}
+use Rattle.kd_world.specs.Holding.{next_visit}
+use Rattle.kd_world.specs.Whole.{next_seat}
 use Rattle.kd_core.specs.Held.{IsHeld, IsHeldBy, holder_of, world_of}
 use Rattle.kd_core.proofs.Holding.{seat_next}
 

@@ -2,6 +2,7 @@
 use Rattle.std.specs.Prelude.{ℕ, Bool, true, false, not, ◌&&◌, ◌||◌, List, [], ◌∷◌, Option, Some, None, Ok, Err, IsTrue, is_none, ◌==◌}
 use Rattle.std.proofs.Common.{◌≡◌, refl, sym, ap, ◌∙◌}
 use Rattle.std.proofs.lemmas.Bool.{true≢false}
+use Rattle.kd_model.proofs.Truth.{left_false, left_true, none_is, not_false, right_true}
 use Rattle.kd_types.specs.declared.refusal.Refusal.{Refusal}
 use Rattle.kd_types.specs.declared.refusal.Refusal.TheVariants.{NoSuchBus}
 use Rattle.kd_model.specs.Words.{is_empty}
@@ -9,42 +10,32 @@ use Rattle.kd_wire.specs.declared.item.WireItem.{WireItem}
 use Rattle.kd_wire.specs.declared.command.Command.{Command}
 use Rattle.kd_wire.specs.declared.command.Command.TheVariants as cmd
 use Rattle.kd_wire.specs.WellFormed.{is_well_formed}
-use Rattle.kd_desk.specs.declared.who.Who.{Who}
-use Rattle.kd_desk.specs.State.{Desk}
-use Rattle.kd_desk.specs.Plans.{Plan}
-use Rattle.kd_desk.specs.Step.{plan}
-use Rattle.kd_desk.specs.Runs.{answered, is_handover_by, is_keeper, is_not_run, runs, unsupported}
-use Rattle.kd_world.specs.World.{World, take, caller_at, names_other_bus, is_elsewhere, is_fresh, planned, is_caller, is_for_desk, legal, holder_by, holder_after, desk_after, pools_after, callers_after, act_of, step, says, taken_answer}
+use Rattle.kd_commands.specs.declared.who.Who.{Who}
+use Rattle.kd_commands.specs.State.{Desk}
+use Rattle.kd_commands.specs.Plans.{Plan}
+use Rattle.kd_commands.specs.Step.{plan}
+use Rattle.kd_desk.specs.Runs.{answered, is_handover_by, is_keeper, is_not_run, is_planned, unsupported}
+use Rattle.kd_world.specs.State.{World, caller_at}
+use Rattle.kd_world.specs.Planner.{names_other_bus, is_elsewhere, is_fresh, planned}
+use Rattle.kd_world.specs.Legal.{take, is_caller, is_for_desk, legal}
+use Rattle.kd_world.specs.Pools.{pools_after, act_of}
+use Rattle.kd_world.specs.Callers.{callers_after}
+use Rattle.kd_world.specs.Step.{holder_by, holder_after, desk_after, step}
+use Rattle.kd_world.specs.Answers.{says, taken_answer}
 use Rattle.kd_core.specs.Running.{may, is_run}
-
-pub right_holds : (a b : Bool) → IsTrue (a && b) → IsTrue b
-right_holds true b h = h
-right_holds false b h = absurd (true≢false (sym h))
-
-pub left_holds : (a b : Bool) → IsTrue (a && b) → IsTrue a
-left_holds true b h = refl
-left_holds false b h = absurd (true≢false (sym h))
 
 not_so : (a : Bool) → IsTrue (not a) → a ≡ false
 not_so true h = absurd (true≢false (sym h))
 not_so false h = refl
-
-left_fails : (a b : Bool) → a || b ≡ false → a ≡ false
-left_fails true b h = absurd (true≢false h)
-left_fails false b h = refl
-
-holds_instead : (a : Bool) → not a ≡ false → IsTrue a
-holds_instead true h = refl
-holds_instead false h = absurd (true≢false h)
 
 -- a command that is run names no bus
 of_this_bus : (is : List WireItem) → IsTrue (is_empty is) → is_elsewhere is ≡ false
 of_this_bus [] h = refl
 of_this_bus (i ∷ is) h = absurd (true≢false (sym h))
 
-names_this_bus : (x : Command) → IsTrue (runs x) → names_other_bus x ≡ false
-unfolding runs
-names_this_bus (cmd.Hello flags size send_mask receive_mask is) h = of_this_bus is (right_holds (flags.0 == 0 && send_mask == 0 && receive_mask == 0) (is_empty is) h)
+names_this_bus : (x : Command) → IsTrue (is_planned x) → names_other_bus x ≡ false
+unfolding is_planned
+names_this_bus (cmd.Hello flags size send_mask receive_mask is) h = of_this_bus is (right_true (flags.0 == 0 && send_mask == 0 && receive_mask == 0) (is_empty is) h)
 names_this_bus (cmd.EndpointMake is) h = absurd (true≢false (sym h))
 names_this_bus _ h = refl
 
@@ -52,7 +43,7 @@ names_this_bus _ h = refl
 pub run_as_planned : (d : Desk) (w : Who) (x : Command) → is_not_run d w.member x ≡ false → answered d w x ≡ planned d w x
 unfolding answered planned
 run_as_planned d w x h =
-    let run : IsTrue (runs x) = holds_instead (runs x) (left_fails (not (runs x)) (is_keeper w.member) (left_fails (not (runs x) || is_keeper w.member) (is_handover_by d w.member x) h)) in
+    let run : IsTrue (is_planned x) = not_false (is_planned x) (left_false (not (is_planned x)) (is_keeper w.member) (left_false (not (is_planned x) || is_keeper w.member) (is_handover_by d w.member x) h)) in
     ap (λ b. elim b [ true ↦ unsupported x | false ↦ plan d w x ]) h ∙ sym (no_other (is_fresh w.member) (names_other_bus x) (names_this_bus x run) (Err (NoSuchBus 0)) (plan d w x))
   where
     no_other : {X : Type 0} (a b : Bool) → b ≡ false → (there here : X) → elim (a && b) [ true ↦ there | false ↦ here ] ≡ here
@@ -62,23 +53,19 @@ run_as_planned d w x h =
 -- what may be taken
 pub may_take : (w : World) (n : ℕ) (x : Command) → IsTrue (may w (take n x)) → is_not_run w.desk (caller_at w n).who.member x ≡ false
 unfolding may
-may_take w n x h = not_so (is_not_run w.desk (caller_at w n).who.member x) (right_holds (legal w (take n x)) (is_run w (take n x)) h)
+may_take w n x h = not_so (is_not_run w.desk (caller_at w n).who.member x) (right_true (legal w (take n x)) (is_run w (take n x)) h)
 
 pub takes_form : (w : World) (n : ℕ) (x : Command) → IsTrue (may w (take n x)) → IsTrue (is_well_formed x)
 unfolding may legal
-takes_form w n x h = right_holds (is_caller n && is_none w.holder && is_for_desk x) (is_well_formed x) (left_holds (legal w (take n x)) (is_run w (take n x)) h)
+takes_form w n x h = right_true (is_caller n && is_none w.holder && is_for_desk x) (is_well_formed x) (left_true (legal w (take n x)) (is_run w (take n x)) h)
 
 pub takes_as_caller : (w : World) (n : ℕ) (x : Command) → IsTrue (may w (take n x)) → IsTrue (is_caller n)
 unfolding may legal
-takes_as_caller w n x h = left_holds (is_caller n) (is_none w.holder) (left_holds (is_caller n && is_none w.holder) (is_for_desk x) (left_holds (is_caller n && is_none w.holder && is_for_desk x) (is_well_formed x) (left_holds (legal w (take n x)) (is_run w (take n x)) h)))
+takes_as_caller w n x h = left_true (is_caller n) (is_none w.holder) (left_true (is_caller n && is_none w.holder) (is_for_desk x) (left_true (is_caller n && is_none w.holder && is_for_desk x) (is_well_formed x) (left_true (legal w (take n x)) (is_run w (take n x)) h)))
 
 pub takes_free_desk : (w : World) (n : ℕ) (x : Command) → IsTrue (may w (take n x)) → w.holder ≡ None
 unfolding may legal
-takes_free_desk w n x h = none_there w.holder (right_holds (is_caller n) (is_none w.holder) (left_holds (is_caller n && is_none w.holder) (is_for_desk x) (left_holds (is_caller n && is_none w.holder && is_for_desk x) (is_well_formed x) (left_holds (legal w (take n x)) (is_run w (take n x)) h))))
-  where
-    none_there : {X : Type 0} (o : Option X) → IsTrue (is_none o) → o ≡ None
-    none_there None h = refl
-    none_there (Some x) h = absurd (true≢false (sym h))
+takes_free_desk w n x h = none_is w.holder (right_true (is_caller n) (is_none w.holder) (left_true (is_caller n && is_none w.holder) (is_for_desk x) (left_true (is_caller n && is_none w.holder && is_for_desk x) (is_well_formed x) (left_true (legal w (take n x)) (is_run w (take n x)) h))))
 
 -- a world whose desk was taken
 pub after_taking : (w : World) (n : ℕ) (x : Command) (p : Plan) → planned w.desk (caller_at w n).who x ≡ Ok p

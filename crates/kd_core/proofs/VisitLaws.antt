@@ -6,35 +6,42 @@ use Rattle.std.specs.declared.snapshot.Snapshot.{Snapshot}
 use Rattle.std.proofs.lemmas.Bool.{true≢false}
 use Rattle.std.proofs.lemmas.List.{drop_more, length-set}
 use Rattle.kd_types.specs.declared.refusal.Refusal.{Refusal}
-use Rattle.kd_pool.specs.State.{Answer, Content, Hold, by_desk, done}
-use Rattle.kd_pool.specs.Steps.{pool_step}
+use Rattle.kd_acts.specs.State.{Answer, Content, Hold, by_desk, done}
+use Rattle.kd_acts.specs.Steps.{pool_step}
 use Rattle.kd_desk.specs.declared.part.Part as code
 use Rattle.kd_desk.specs.declared.part.Out.{Out}
 use Rattle.kd_desk.specs.declared.part.Out.TheVariants as out
 use Rattle.kd_core.specs.declared.event.Answer.TheVariants as answer
-use Rattle.kd_core.specs.declared.hold.Hold as hold
+use Rattle.kd_holds.specs.declared.hold.Hold as hold
 use Rattle.kd_wire.specs.declared.command.Command.{Command}
-use Rattle.kd_desk.specs.declared.who.Who.{Who}
-use Rattle.kd_desk.specs.State.{Desk}
+use Rattle.kd_commands.specs.declared.who.Who.{Who}
+use Rattle.kd_commands.specs.State.{Desk}
+use Rattle.kd_commands.specs.Plans.{Plan, Part}
+use Rattle.kd_commands.specs.Visits.{first_ends, next_part}
+use Rattle.kd_commands.specs.Step.{parts_in}
 use Rattle.kd_desk.specs.Drafts.{Draft, IsVisitable, drafted, part_with, parts_with}
-use Rattle.kd_desk.specs.Outs.{answer_of, answers_of}
-use Rattle.kd_desk.specs.Plans.{Plan}
-use Rattle.kd_desk.specs.Send.{Part}
-use Rattle.kd_desk.specs.Step.{first_ends, next_part, parts_in}
-use Rattle.kd_core.specs.declared.holder.Holder as holder
+use Rattle.kd_desk.specs.Outs.{out_answer, answers_of}
+use Rattle.kd_holds.specs.declared.holder.Holder as holder
 use Rattle.kd_core.specs.declared.world.World.TheInside.{Inside}
-use Rattle.kd_core.specs.Counts.{IsBelow, is_settle}
+use Rattle.kd_holds.specs.Counts.{IsBelow, is_settle}
 use Rattle.kd_core.specs.Held.{IsHeld, IsHeldBy, IsWhole, holder_of, world_of}
-use Rattle.kd_core.specs.Stack.{stack_of}
-use Rattle.kd_core.specs.Lists.{first_of}
+use Rattle.kd_holds.specs.Stack.{stack_of}
+use Rattle.kd_holds.specs.Lists.{first_of}
 use Rattle.kd_core.specs.Running.{Running, is_run, may, out_of, said, stepped}
-use Rattle.kd_core.specs.Visits.{HasVisited, IsReady, IsSameHolder, IsVisited}
-use Rattle.kd_world.specs.World.{World, Holder, Aimed, aimed, closed, visit, legal, is_caller, is_part_at, next_visit, parts_planned, planned, act_of, desk_after, holder_after, pools_after, callers_after, pool_answer, says, step, told}
-use Rattle.kd_core.proofs.Ahead.{next_is_ahead, seat_with}
+use Rattle.kd_holds.specs.Visits.{HasVisited, IsReady, IsSameHolder, IsVisited}
+use Rattle.kd_world.specs.State.{World, Holder, closed_pool}
+use Rattle.kd_world.specs.Planner.{parts_planned, planned}
+use Rattle.kd_world.specs.Holding.{next_visit}
+use Rattle.kd_world.specs.Legal.{visit, legal, is_caller, is_part_at}
+use Rattle.kd_world.specs.Pools.{Aimed, aimed, act_of, pools_after, pool_answer}
+use Rattle.kd_world.specs.Callers.{callers_after}
+use Rattle.kd_world.specs.Step.{desk_after, holder_after, step}
+use Rattle.kd_world.specs.Answers.{says, told_answer}
+use Rattle.kd_holds.proofs.Ahead.{next_is_ahead, seat_with}
 use Rattle.kd_core.proofs.Seen.{held_in, inner}
-use Rattle.kd_core.proofs.Below.{below_after}
-use Rattle.kd_core.proofs.Counting.{visits_no_settle}
-use Rattle.kd_core.proofs.Takes.{left_holds, right_holds}
+use Rattle.kd_holds.proofs.Below.{below_after}
+use Rattle.kd_holds.proofs.Counting.{visits_no_settle}
+use Rattle.kd_model.proofs.Truth.{left_true, right_true}
 use Rattle.kd_core.proofs.Wholes.{with_steps}
 
 -- ---- what is left to visit
@@ -115,20 +122,20 @@ the_part seat (Some q) h = (q, refl, h)
 
 pub may_visit : (w : World) (n seat : ℕ) → IsTrue (may w (visit n seat)) → MayVisit w n seat
 unfolding may legal
-may_visit w n seat h = go w.holder refl (right_holds (is_caller n) _ (left_holds (legal w (visit n seat)) (is_run w (visit n seat)) h))
+may_visit w n seat h = go w.holder refl (right_true (is_caller n) _ (left_true (legal w (visit n seat)) (is_run w (visit n seat)) h))
   where
     go : (o : Option Holder) → w.holder ≡ o → IsTrue (elim o [ None ↦ false | Some k ↦ k.caller == n && is_part_at seat (next_visit w k) ]) → MayVisit w n seat
     go None e t = absurd (true≢false (sym t))
     go (Some k) e t =
-        let q = the_part seat (next_visit w k) (right_holds (k.caller == n) (is_part_at seat (next_visit w k)) t) in
+        let q = the_part seat (next_visit w k) (right_true (k.caller == n) (is_part_at seat (next_visit w k)) t) in
         record { held = k; part = q.0; holds = e; next = q.1; here = q.2 }
 
 -- ---- the world after it
 
 abbrev visited_by : World → Holder → Option Aimed → World
 visited_by w k o = record w {
-  holder = Some (record k { outs = k.outs ++ elim o [ None ↦ done | Some a ↦ (pool_step (get_or w.pools a.seat closed) a.act).1 ] ∷ [] });
-  pools = elim o [ None ↦ w.pools | Some a ↦ set w.pools a.seat (pool_step (get_or w.pools a.seat closed) a.act).0 ];
+  holder = Some (record k { outs = k.outs ++ elim o [ None ↦ done | Some a ↦ (pool_step (get_or w.pools a.seat closed_pool) a.act).1 ] ∷ [] });
+  pools = elim o [ None ↦ w.pools | Some a ↦ set w.pools a.seat (pool_step (get_or w.pools a.seat closed_pool) a.act).0 ];
 }
 
 pub after_visiting : (w : World) (n seat : ℕ) (k : Holder) (q : Part) → next_visit (record w { holder = Some k }) k ≡ Some q
@@ -165,14 +172,14 @@ ready_in w n seat v i =
     let m = meets_in w n seat v i in
     record { left = some_left (length v.holder.outs.items) v.holder.plan.parts m.part m.rest m.ahead; parts = held.parts; made = held.made }
 
-answers_more : (outs : List Out) (o : Out) → answers_of (outs ++ o ∷ []) ≡ answers_of outs ++ answer_of o ∷ []
+answers_more : (outs : List Out) (o : Out) → answers_of (outs ++ o ∷ []) ≡ answers_of outs ++ out_answer o ∷ []
 answers_more [] o = refl
-answers_more (x ∷ outs) o = ap (answer_of x ∷◌) (answers_more outs o)
+answers_more (x ∷ outs) o = ap (out_answer x ∷◌) (answers_more outs o)
 
 abbrev seen_holder : ℕ → Who → Snapshot Command → List Out → Holder
 seen_holder n w x outs = record { caller = n; who = w; command = x.value; outs = answers_of outs }
 
-pub holder_visited : (h k : holder.Holder) (o : Out) → HasVisited h k o → holder_of k ≡ record (holder_of h) { outs = answers_of h.outs.items ++ answer_of o ∷ [] }
+pub holder_visited : (h k : holder.Holder) (o : Out) → HasVisited h k o → holder_of k ≡ record (holder_of h) { outs = answers_of h.outs.items ++ out_answer o ∷ [] }
 holder_visited h k o v =
     ap (λ n. seen_holder n k.who k.command k.outs.items) v.caller ∙ ap (λ w. seen_holder h.caller w k.command k.outs.items) v.who
     ∙ ap (λ x. seen_holder h.caller h.who x k.outs.items) v.command ∙ ap (seen_holder h.caller h.who h.command) v.outs
@@ -197,16 +204,16 @@ some_of_it (Some x) i = (x, refl)
 
 -- the pools after it, by the part of the definitions
 pools_visited : (old new : List Hold) (p : code.Part) (c : Option Content) (q : Part) (o : Out) → q ≡ part_with c p → IsVisited p old new o
-    → new ≡ set old q.seat (pool_step (get_or old q.seat closed) (by_desk q.act)).0
+    → new ≡ set old q.seat (pool_step (get_or old q.seat closed_pool) (by_desk q.act)).0
 pools_visited old new p c q o e v =
-    v.after c ∙ ap (λ s. set old s (pool_step (get_or old s closed) (by_desk (part_with c p).act)).0) (sym (seat_with c p))
-    ∙ ap (λ (x : Part). set old x.seat (pool_step (get_or old x.seat closed) (by_desk x.act)).0) (sym e)
+    v.after c ∙ ap (λ s. set old s (pool_step (get_or old s closed_pool) (by_desk (part_with c p).act)).0) (sym (seat_with c p))
+    ∙ ap (λ (x : Part). set old x.seat (pool_step (get_or old x.seat closed_pool) (by_desk x.act)).0) (sym e)
 
 answer_visited : (old new : List Hold) (p : code.Part) (c : Option Content) (q : Part) (o : Out) → q ≡ part_with c p → IsVisited p old new o
-    → answer_of o ≡ (pool_step (get_or old q.seat closed) (by_desk q.act)).1
+    → out_answer o ≡ (pool_step (get_or old q.seat closed_pool) (by_desk q.act)).1
 answer_visited old new p c q o e v =
-    v.answer c ∙ ap (λ s. (pool_step (get_or old s closed) (by_desk (part_with c p).act)).1) (sym (seat_with c p))
-    ∙ ap (λ (x : Part). (pool_step (get_or old x.seat closed) (by_desk x.act)).1) (sym e)
+    v.answer c ∙ ap (λ s. (pool_step (get_or old s closed_pool) (by_desk (part_with c p).act)).1) (sym (seat_with c p))
+    ∙ ap (λ (x : Part). (pool_step (get_or old x.seat closed_pool) (by_desk x.act)).1) (sym e)
 
 -- what a visit leaves, of holder and pools
 pub record Visited (w : Inside) (n seat : ℕ) (holds : Option holder.Holder) (pools : List Hold) (out : Out) : Type 0 where
@@ -246,17 +253,17 @@ visited_so w r n seat holds pools out e v =
     let here : World = record (inner w) { holder = Some k } in
     let same : here ≡ inner w = ap (λ o. record (inner w) { holder = option_map holder_of o }) (sym v.before.holds) in
     let next : next_visit here k ≡ Some q = ap (λ x. next_visit x k) same ∙ v.before.next in
-    let outs : answer_of out ≡ (pool_step (get_or w.pools.items q.seat closed) (by_desk q.act)).1 = answer_visited w.pools.items pools v.meets.part v.meets.content q out v.meets.same v.did in
-    let after : pools ≡ set w.pools.items q.seat (pool_step (get_or w.pools.items q.seat closed) (by_desk q.act)).0 = pools_visited w.pools.items pools v.meets.part v.meets.content q out v.meets.same v.did in
+    let outs : out_answer out ≡ (pool_step (get_or w.pools.items q.seat closed_pool) (by_desk q.act)).1 = answer_visited w.pools.items pools v.meets.part v.meets.content q out v.meets.same v.did in
+    let after : pools ≡ set w.pools.items q.seat (pool_step (get_or w.pools.items q.seat closed_pool) (by_desk q.act)).0 = pools_visited w.pools.items pools v.meets.part v.meets.content q out v.meets.same v.did in
     let world : record (inner w) { holder = option_map holder_of holds; pools = pools } ≡ step (inner w) (visit n seat) =
     ap (λ o. record (inner w) { holder = option_map holder_of o; pools = pools }) v.holds_now
     ∙ ap (λ x. record (inner w) { holder = Some x; pools = pools }) (holder_visited h v.holder out v.one_more)
     ∙ ap (λ a. record (inner w) { holder = Some (record k { outs = k.outs ++ a ∷ [] }); pools = pools }) outs
-    ∙ ap (λ ps. record (inner w) { holder = Some (record k { outs = k.outs ++ (pool_step (get_or w.pools.items q.seat closed) (by_desk q.act)).1 ∷ [] }); pools = ps }) after
+    ∙ ap (λ ps. record (inner w) { holder = Some (record k { outs = k.outs ++ (pool_step (get_or w.pools.items q.seat closed_pool) (by_desk q.act)).1 ∷ [] }); pools = ps }) after
     ∙ sym (after_visiting (inner w) n seat k q next) ∙ ap (λ x. step x (visit n seat)) same in
     ap (with_steps (w.steps + 1)) world ∙ ap (λ (s : Running). stepped s (visit n seat)) e
 
-told_out : (o : Out) → out_of (told (answer_of o)) ≡ o
+told_out : (o : Out) → out_of (told_answer (out_answer o)) ≡ o
 told_out out.Done = refl
 told_out (out.Slice number) = refl
 told_out (out.Refused why) = refl
@@ -266,18 +273,18 @@ pub visited_said : (w : Inside) (r : Running) (n seat : ℕ) (holds : Option hol
 unfolding says pool_answer act_of
 visited_said w r n seat holds pools out e v =
     let q : Part = v.before.part in
-    let outs : answer_of out ≡ (pool_step (get_or w.pools.items q.seat closed) (by_desk q.act)).1 = answer_visited w.pools.items pools v.meets.part v.meets.content q out v.meets.same v.did in
+    let outs : out_answer out ≡ (pool_step (get_or w.pools.items q.seat closed_pool) (by_desk q.act)).1 = answer_visited w.pools.items pools v.meets.part v.meets.content q out v.meets.same v.did in
     let asks : act_of (inner w) (visit n seat) ≡ Some (aimed q) = ap (λ o. elim (option_map holder_of o) [ None ↦ None | Some k ↦ option_map aimed (next_visit (inner w) k) ]) v.before.holds ∙ ap (option_map aimed) v.before.next in
     sym (ap answer.Visited (
-    ap (λ (s : Running). out_of (told (pool_answer s.world (visit n seat)))) (sym e)
-    ∙ ap (λ o. out_of (told (elim o [ None ↦ done | Some a ↦ (pool_step (get_or w.pools.items a.seat closed) a.act).1 ]))) asks
-    ∙ ap (λ a. out_of (told a)) (sym outs) ∙ told_out out))
+    ap (λ (s : Running). out_of (told_answer (pool_answer s.world (visit n seat)))) (sym e)
+    ∙ ap (λ o. out_of (told_answer (elim o [ None ↦ done | Some a ↦ (pool_step (get_or w.pools.items a.seat closed_pool) a.act).1 ]))) asks
+    ∙ ap (λ a. out_of (told_answer a)) (sym outs) ∙ told_out out))
 
 pub whole_visited : (w : Inside) (n seat : ℕ) (holds : Option holder.Holder) (pools : Vec hold.Hold Global) (out : Out) → IsWhole w → w.steps < 2 ^ 54 → Visited w n seat holds pools.items out
     → IsWhole (record w { holder = holds; pools = pools; steps = w.steps + 1 })
 whole_visited w n seat holds pools out i few v =
     let q : Part = v.before.part in
-    let after : pools.items ≡ set w.pools.items q.seat (pool_step (get_or w.pools.items q.seat closed) (by_desk q.act)).0 = pools_visited w.pools.items pools.items v.meets.part v.meets.content q out v.meets.same v.did in
+    let after : pools.items ≡ set w.pools.items q.seat (pool_step (get_or w.pools.items q.seat closed_pool) (by_desk q.act)).0 = pools_visited w.pools.items pools.items v.meets.part v.meets.content q out v.meets.same v.did in
     let visitable : IsVisitable v.meets.part = visitable_at (length v.before.holder.outs.items) v.before.holder.plan.parts v.meets.part v.meets.rest (held_in w v.before.holder v.before.holds i.holder).parts v.meets.ahead in
     let quiet : is_settle (by_desk q.act) ≡ false = ap (λ (x : Part). is_settle (by_desk x.act)) v.meets.same ∙ visits_no_settle v.meets.content v.meets.part visitable in
     record {

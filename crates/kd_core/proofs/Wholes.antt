@@ -4,23 +4,27 @@ use Rattle.std.specs.List.{AllByRecursion}
 use Rattle.kd_types.specs.declared.refusal.Refusal.{Refusal}
 use Rattle.kd_types.specs.declared.refusal.Refusal.TheVariants as why
 use Rattle.kd_wire.specs.declared.command.Command.{Command}
-use Rattle.kd_pool.specs.State.{Hold}
-use Rattle.kd_desk.specs.State.{Desk}
-use Rattle.kd_desk.specs.Plans.{Plan}
+use Rattle.kd_acts.specs.State.{Hold}
+use Rattle.kd_commands.specs.State.{Desk, opening_desk}
+use Rattle.kd_commands.specs.Plans.{Plan}
 use Rattle.kd_desk.specs.declared.part.Out.{Out}
-use Rattle.kd_desk.specs.declared.who.Who.{Who}
+use Rattle.kd_commands.specs.declared.who.Who.{Who}
 use Rattle.kd_desk.specs.Outs.{answers_of}
 use Rattle.kd_desk.specs.Runs.{answered, is_not_run}
-use Rattle.kd_desk.specs.Drafts.{Answers, Draft}
+use Rattle.kd_desk.specs.Drafts.{PlanResult, Draft}
 use Rattle.kd_core.specs.declared.event.Answer.TheVariants as answer
-use Rattle.kd_core.specs.declared.holder.Holder as code
+use Rattle.kd_holds.specs.declared.holder.Holder as code
 use Rattle.kd_core.specs.declared.world.World.TheInside.{Inside}
-use Rattle.kd_core.specs.Counts.{IsBelow}
-use Rattle.kd_core.specs.Stack.{stack_of}
-use Rattle.kd_world.specs.World.{World, take, caller_at, creds_after, planned, says}
+use Rattle.kd_holds.specs.Counts.{IsBelow}
+use Rattle.kd_holds.specs.Stack.{stack_of}
+use Rattle.kd_world.specs.State.{World, caller_at}
+use Rattle.kd_world.specs.Planner.{planned}
+use Rattle.kd_world.specs.Legal.{take}
+use Rattle.kd_world.specs.Callers.{creds_after}
+use Rattle.kd_world.specs.Answers.{says}
 use Rattle.kd_core.specs.Running.{Running, may, said, stepped}
 use Rattle.kd_core.specs.Held.{IsHeld, IsWhole, world_of}
-use Rattle.kd_core.proofs.Counting.{weaker_below}
+use Rattle.kd_holds.proofs.Counting.{weaker_below}
 use Rattle.kd_core.proofs.Seen.{inner}
 use Rattle.kd_core.proofs.Takes.{after_refusing, after_taking, may_take, run_as_planned, says_refused, says_taken, takes_free_desk}
 
@@ -50,7 +54,7 @@ whole_held w h i few held = record {
   holder = held;
 }
 
-pub refusal_is : (d : Desk) (r : Result Plan Refusal) (e : Refusal) → e ≢ why.OutOfMemory → Answers d r (Err e) → r ≡ Err e
+pub refusal_is : (d : Desk) (r : Result Plan Refusal) (e : Refusal) → e ≢ why.OutOfMemory → PlanResult d r (Err e) → r ≡ Err e
 refusal_is d r why.OutOfMemory ne a = absurd (ne refl)
 refusal_is d r e ne a = a
 
@@ -59,11 +63,11 @@ with_steps n w = record { world = w; steps = n }
 
 -- a plan as the world has it
 pub planned_in : (w : Inside) (r : Running) (n : ℕ) (who : Who) (x : Command) (result : Result Draft Refusal) → world_of w ≡ r → who ≡ (caller_at r.world n).who → IsTrue (may r.world (take n x))
-    → Answers w.desk (answered w.desk who x) result → Answers r.world.desk (planned r.world.desk who x) result
-planned_in w r n who x result e wh m a = subst (λ (s : Running). who ≡ (caller_at s.world n).who → IsTrue (may s.world (take n x)) → Answers s.world.desk (planned s.world.desk who x) result) e here wh m
+    → PlanResult w.desk (answered w.desk who x) result → PlanResult r.world.desk (planned r.world.desk who x) result
+planned_in w r n who x result e wh m a = subst (λ (s : Running). who ≡ (caller_at s.world n).who → IsTrue (may s.world (take n x)) → PlanResult s.world.desk (planned s.world.desk who x) result) e here wh m
   where
-    here : who ≡ (caller_at (inner w) n).who → IsTrue (may (inner w) (take n x)) → Answers w.desk (planned w.desk who x) result
-    here wh m = subst (λ p. Answers w.desk p result) (run_as_planned w.desk who x (ap (λ (u : Who). is_not_run w.desk u.member x) wh ∙ may_take (inner w) n x m)) a
+    here : who ≡ (caller_at (inner w) n).who → IsTrue (may (inner w) (take n x)) → PlanResult w.desk (planned w.desk who x) result
+    here wh m = subst (λ p. PlanResult w.desk p result) (run_as_planned w.desk who x (ap (λ (u : Who). is_not_run w.desk u.member x) wh ∙ may_take (inner w) n x m)) a
 
 -- a take that was refused
 pub refused_in : (w : Inside) (r : Running) (n : ℕ) (who : Who) (x : Command) (e : Refusal) → world_of w ≡ r → who ≡ (caller_at r.world n).who → IsTrue (may r.world (take n x))
@@ -98,11 +102,11 @@ pub taken_said : (w : World) (n : ℕ) (who : Who) (x : Command) (p : Plan) → 
 taken_said w n who x p wh e = sym (ap (said (take n x)) (says_taken w n x p (ap (λ u. planned w.desk u x) (sym wh) ∙ e)))
 
 -- who has just taken the desk
-pub newly_held : (w : Inside) (r : Running) (h : code.Holder) (x : Command) → world_of w ≡ r → Answers r.world.desk (planned r.world.desk h.who x) (Ok h.plan)
+pub newly_held : (w : Inside) (r : Running) (h : code.Holder) (x : Command) → world_of w ≡ r → PlanResult r.world.desk (planned r.world.desk h.who x) (Ok h.plan)
     → h.command.value ≡ x → h.outs.items ≡ [] → h.made ≡ stack_of h.plan.parts → h.creds ≡ creds_after h.who.creds x → IsHeld w.desk h
-newly_held w r h x v a c o m k = subst (λ (s : Running). Answers s.world.desk (planned s.world.desk h.who x) (Ok h.plan) → IsHeld w.desk h) v here a
+newly_held w r h x v a c o m k = subst (λ (s : Running). PlanResult s.world.desk (planned s.world.desk h.who x) (Ok h.plan) → IsHeld w.desk h) v here a
   where
-    here : Answers w.desk (planned w.desk h.who x) (Ok h.plan) → IsHeld w.desk h
+    here : PlanResult w.desk (planned w.desk h.who x) (Ok h.plan) → IsHeld w.desk h
     here a = record {
       plan = ap (planned w.desk h.who) c ∙ a.0;
       fits = a.1;
@@ -111,3 +115,8 @@ newly_held w r h x v a c o m k = subst (λ (s : Running). Answers s.world.desk (
       made = rw o m;
       creds = k ∙ ap (creds_after h.who.creds) (sym c);
     }
+
+-- the first connection has the id 1
+pub starts_low : (creator size hashes : ℕ) (d : Desk) → d ≡ opening_desk creator size hashes → d.next_id ≤ 1
+unfolding opening_desk
+starts_low creator size hashes d e = rw e (omega arith)

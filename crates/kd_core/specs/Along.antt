@@ -1,7 +1,12 @@
 -- Lists of events: which may happen, what they change and what they are answered.
-use Rattle.std.specs.Prelude.{ℕ, ◌+◌, Bool, true, false, List, [], ◌∷◌, Option, Some, None, option_map}
+use Rattle.std.specs.Prelude.{ℕ, ◌+◌, Bool, true, false, List, [], ◌∷◌, Option, Some, None, Result, Ok, Err, option_map, take}
+use Rattle.kd_core.specs.declared.events.RunError.{RunError}
+use Rattle.kd_core.specs.declared.events.RunError.TheVariants.{Illegal, OutOfMemory}
 use Rattle.kd_core.specs.declared.event.Answer.{Answer}
-use Rattle.kd_world.specs.World.{World, Event, step, says}
+use Rattle.kd_world.specs.State.{World}
+use Rattle.kd_world.specs.Legal.{Event}
+use Rattle.kd_world.specs.Step.{step}
+use Rattle.kd_world.specs.Answers.{says}
 use Rattle.kd_core.specs.Running.{Running, may, said, stepped}
 
 -- an event that may not happen is the first, else the one behind it
@@ -23,3 +28,13 @@ ran r (e ∷ es) = ran (stepped r e) es
 unfoldable pub said_along : World → List Event → List Answer
 said_along w [] = []
 said_along w (e ∷ es) = said e (says w e) ∷ said_along (step w e) es
+
+-- those before the one that is told
+abbrev pub events_before : RunError → List Event → List Event
+events_before (Illegal index) es = take index es
+events_before (OutOfMemory index) es = take index es
+
+-- those that were run, all or a front
+abbrev pub events_run : {A : Type 0} → Result A RunError → List Event → List Event
+events_run (Ok answers) es = es
+events_run (Err e) es = events_before e es

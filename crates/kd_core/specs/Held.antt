@@ -1,21 +1,36 @@
 -- What contracts see of a world, and what it keeps.
 use Rattle.std.specs.Prelude.{◌≡◌, ◌≤◌, ◌+◌, ◌^◌, length, drop, Option, Some, None, option_map, Ok}
 use Rattle.std.specs.List.{AllByRecursion}
-use Rattle.kd_desk.specs.State.{Desk}
+use Rattle.kd_commands.specs.State.{Desk}
 use Rattle.kd_desk.specs.Drafts.{Fits, IsVisitable, drafted}
 use Rattle.kd_desk.specs.Outs.{answers_of}
-use Rattle.kd_core.specs.declared.holder.Holder as code
+use Rattle.kd_holds.specs.declared.holder.Holder as code
 use Rattle.kd_core.specs.declared.world.World.TheInside.{Inside}
-use Rattle.kd_core.specs.Counts.{IsBelow}
-use Rattle.kd_core.specs.Stack.{stack_of}
-use Rattle.kd_world.specs.World.{Holder, planned, creds_after}
+use Rattle.kd_holds.specs.Counts.{IsBelow}
+use Rattle.kd_holds.specs.Stack.{stack_of}
+use Rattle.kd_world.specs.State.{Holder}
+use Rattle.kd_world.specs.Planner.{planned}
+use Rattle.kd_world.specs.Callers.{creds_after}
 use Rattle.kd_core.specs.Running.{Running}
 
 abbrev pub holder_of : code.Holder → Holder
-holder_of h = record { caller = h.caller; who = h.who; command = h.command.value; outs = answers_of h.outs.items }
+holder_of h = record {
+  caller = h.caller;
+  who = h.who;
+  command = h.command.value;
+  outs = answers_of h.outs.items;
+}
 
 abbrev pub world_of : Inside → Running
-world_of w = record { world = record { desk = w.desk; holder = option_map holder_of w.holder; pools = w.pools.items; callers = w.callers.items }; steps = w.steps }
+world_of w = record {
+  world = record {
+    desk = w.desk;
+    holder = option_map holder_of w.holder;
+    pools = w.pools.items;
+    callers = w.callers.items;
+  };
+  steps = w.steps;
+}
 
 -- the holder's plan is that of its command, for the desk as it is; the pools that it opens are made
 pub record IsHeld (d : Desk) (h : code.Holder) : Type 0 where

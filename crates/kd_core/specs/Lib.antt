@@ -1,12 +1,14 @@
-pub mod Publishing
-pub mod Stack
-pub mod Counts
-pub mod Lists
-pub mod Ahead
+-- In reading order. All serve the contracts of the code alone.
+
+-- events and answers of the code, and what is run so far
 pub mod Running
+-- plans of commands that are run
 pub mod Planned
-pub mod Visits
-pub mod Held
+-- an act at the pool of a seat, among all pools
 pub mod Acting
+-- what the caller is that leaves the desk
+pub mod Turned
+-- what contracts see of a world, and what it keeps
+pub mod Held
+-- lists of events
 pub mod Along
-pub mod Placed

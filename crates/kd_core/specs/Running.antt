@@ -1,17 +1,17 @@
 -- Events and answers of the code, and what is run so far.
-use Rattle.std.specs.Prelude.{ℕ, ◌+◌, Bool, true, not, ◌&&◌, Option, Some, None, option_map}
-use Rattle.kd_pool.specs.State as pool
+use Rattle.std.specs.Prelude.{ℕ, ◌+◌, Bool, true, not, ◌&&◌}
+use Rattle.kd_acts.specs.State as pool
 use Rattle.kd_desk.specs.declared.part.Out.{Out}
 use Rattle.kd_desk.specs.declared.part.Out.TheVariants as out
-use Rattle.kd_desk.specs.Send.{Part}
 use Rattle.kd_desk.specs.Runs.{is_not_run}
-use Rattle.kd_core.specs.Lists.{first_of}
-use Rattle.kd_world.specs.Pendings.{Pending}
+use Rattle.kd_world.specs.State.{World, caller_at}
+use Rattle.kd_world.specs.Legal.{Event, take, visit, leave, publishes, receives, reads, frees, legal}
+use Rattle.kd_world.specs.Step.{step}
+use Rattle.kd_world.specs.Answers.{Says, taken, turned_away, left, pool_says}
 use Rattle.kd_core.specs.declared.event.Event as code
 use Rattle.kd_core.specs.declared.event.Event.TheVariants as event
 use Rattle.kd_core.specs.declared.event.Answer.{Answer}
 use Rattle.kd_core.specs.declared.event.Answer.TheVariants as answer
-use Rattle.kd_world.specs.World.{World, Event, Says, take, visit, leave, publishes, receives, reads, frees, taken, turned_away, left, pool_says, caller_at, legal, next_visit, step}
 
 -- a world, and how many events it has run
 pub record Running : Type 0 where
@@ -39,7 +39,8 @@ told_by_pool pool.placed = answer.Published
 told_by_pool pool.gone = answer.Gone
 told_by_pool pool.freed = answer.Freed
 told_by_pool (pool.refused why) = answer.Refused why
-told_by_pool (pool.got n offset len dropped) = answer.Got (record { number = n; offset = offset; length = len; dropped = dropped })
+told_by_pool (pool.got n offset len dropped) =
+    answer.Got (record { number = n; offset = offset; length = len; dropped = dropped })
 told_by_pool (pool.bytes_of bytes) = answer.Bytes bytes
 told_by_pool _ = answer.Taken
 
@@ -50,14 +51,6 @@ said e (turned_away why) = answer.Refused why
 said e (left reply) = answer.Left reply
 said (visit n seat) (pool_says a) = answer.Visited (out_of a)
 said e (pool_says a) = told_by_pool a
-
--- the seat that the holder of the desk visits next
-abbrev pub next_seat : World → Option ℕ
-next_seat w = elim w.holder [ None ↦ None | Some h ↦ option_map (λ (p : Part). p.seat) (next_visit w h) ]
-
--- where a caller publishes next
-abbrev pub next_publish : World → ℕ → Option (ℕ × ℕ)
-next_publish w n = option_map (λ (p : Pending). (p.seat, p.number)) (first_of (caller_at w n).pendings)
 
 -- the command of a take is run so far
 abbrev pub is_run : World → Event → Bool

@@ -1,8 +1,10 @@
 //! What a world tells of itself.
 
 ghost use Rattle.std.specs.Prelude.{◌≡◌, IsTrue};
-ghost use Rattle.kd_core.specs.Running.{is_run, next_publish, next_seat};
-ghost use Rattle.kd_world.specs.World.{caller_at, is_caller, take};
+ghost use Rattle.kd_core.specs.Running.{is_run};
+ghost use Rattle.kd_world.specs.Whole.{next_publish, next_seat};
+ghost use Rattle.kd_world.specs.State.{caller_at};
+ghost use Rattle.kd_world.specs.Legal.{is_caller, take};
 
 use crate::caller::Caller;
 use crate::world::World;
@@ -26,7 +28,8 @@ impl World {
         self.desk.runs(&self.caller(caller).who, command)
     }
 
-    /// The seat of the pool that the holder of the desk visits next; None where nobody holds it, or no visit is left.
+    /// The seat of the pool that the holder of the desk visits next; None where nobody holds it, or
+    /// no visit is left.
     pub fn next_seat(&self) -> Option<Seat>
         ensures { result ≡ next_seat self.now.world }
     {

@@ -1,12 +1,12 @@
 //! A caller of a world.
 
 ghost use Rattle.std.specs.Prelude.{◌≡◌, IfOk};
-ghost use Rattle.kd_world.specs.World as world;
-ghost use Rattle.kd_world.specs.World.{seat_of, stranger};
+ghost use Rattle.kd_world.specs.State as world;
+ghost use Rattle.kd_world.specs.State.{stranger};
+ghost use Rattle.kd_world.specs.Own.{pool_seat};
 
-use crate::hand::Hand;
-use crate::pending::Pending;
 use kd_desk::{Who, WhoKind};
+use kd_holds::{Hand, Pending};
 use kd_types::{Creds, Kind, Seat};
 use std::alloc::{AllocError, Global};
 use std::marker::Model;
@@ -53,7 +53,7 @@ impl Caller {
 
     /// The seat whose pool it may use; a policy holder has none.
     pub(crate) fn seat(&self) -> Option<Seat>
-        ensures { result ≡ seat_of self.now }
+        ensures { result ≡ pool_seat self.now }
     {
         match self.who.member {
             WhoKind::Conn { seat, .. } if self.kind != Kind::Holder => Some(seat),

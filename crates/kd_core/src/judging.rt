@@ -2,11 +2,12 @@
 
 ghost use Rattle.std.specs.Prelude.{◌≡◌, ◌&&◌, IsTrue, is_none, not};
 ghost use Rattle.kd_core.specs.Running.{event_of, may};
-ghost use Rattle.kd_world.specs.World.{holds_desk, is_caller, is_for_desk, legal, leave, publishes, take, visit};
+ghost use Rattle.kd_world.specs.Holding.{holds_desk};
+ghost use Rattle.kd_world.specs.Legal.{is_caller, is_for_desk, legal, leave, publishes, take, visit};
 
 use crate::event::Event;
-use crate::oldest;
 use crate::world::{CALLERS, World};
+use kd_holds::oldest;
 use kd_types::Seat;
 use kd_wire::Command;
 
@@ -17,7 +18,8 @@ fn is_caller(number: u64) -> bool
     1 <= number && number <= CALLERS as u64
 }
 
-/// Whether the desk has an answer to the command: receives, reads and frees go by the pools, and the one bus is there already.
+/// Whether the desk has an answer to the command: receives, reads and frees go by the pools, and
+/// the one bus is there already.
 fn is_for_desk(command: &Command) -> bool
     ensures { result ≡ is_for_desk command.now }
 {
@@ -29,7 +31,7 @@ fn is_for_desk(command: &Command) -> bool
 
 impl World {
     /// Whether the event is legal now, and its command is run so far.
-    #[tactic(auto, unfolding(crate::specs::Running::may, kd_world::specs::World::legal))]
+    #[tactic(auto, unfolding(crate::specs::Running::may, kd_world::specs::Legal::legal))]
     pub fn may(&self, event: &Event) -> bool
         ensures { result ≡ may self.now.world (event_of event.now) }
     {
@@ -66,7 +68,7 @@ impl World {
         is_caller(caller) && !self.holds_desk(caller)
     }
 
-    #[tactic(auto, unfolding(crate::specs::Running::may, kd_world::specs::World::legal))]
+    #[tactic(auto, unfolding(crate::specs::Running::may, kd_world::specs::Legal::legal))]
     fn may_take(&self, caller: u64, command: &Command) -> bool
         ensures { result ≡ may self.now.world (take caller command.now) }
     {
@@ -77,21 +79,21 @@ impl World {
             && self.runs(caller, command)
     }
 
-    #[tactic(auto, unfolding(kd_world::specs::World::legal))]
+    #[tactic(auto, unfolding(kd_world::specs::Legal::legal))]
     fn may_visit(&self, caller: u64, seat: Seat) -> bool
         ensures { result ≡ legal self.now.world (visit caller seat) }
     {
         is_caller(caller) && self.holds_desk(caller) && self.next_seat() == Some(seat)
     }
 
-    #[tactic(auto, unfolding(kd_world::specs::World::legal))]
+    #[tactic(auto, unfolding(kd_world::specs::Legal::legal))]
     fn may_leave(&self, caller: u64) -> bool
         ensures { result ≡ legal self.now.world (leave caller) }
     {
         is_caller(caller) && self.holds_desk(caller) && self.next_seat().is_none()
     }
 
-    #[tactic(auto, unfolding(kd_world::specs::World::legal))]
+    #[tactic(auto, unfolding(kd_world::specs::Legal::legal))]
     fn may_publish(&self, caller: u64, seat: Seat, number: u32) -> bool
         ensures { result ≡ legal self.now.world (publishes caller seat number) }
     {

@@ -3,13 +3,15 @@
 ghost use Rattle.std.specs.Prelude.{◌≡◌, ◌<◌, ◌^◌, IfOk, IsTrue, OnErr, OnOk};
 ghost use Rattle.kd_core.specs.Planned.{IsPlanned};
 ghost use Rattle.kd_core.specs.Running.{may, said, stepped};
-ghost use Rattle.kd_world.specs.World.{caller_at, creds_after, says, take};
+ghost use Rattle.kd_world.specs.State.{caller_at};
+ghost use Rattle.kd_world.specs.Legal.{take};
+ghost use Rattle.kd_world.specs.Callers.{creds_after};
+ghost use Rattle.kd_world.specs.Answers.{says};
 
 use crate::event::Answer;
-use crate::holder::Holder;
-use crate::made::Made;
 use crate::world::World;
 use kd_desk::{Plan, Who};
+use kd_holds::{Holder, Made};
 use kd_types::{Creds, Refusal};
 use kd_wire::Command;
 use std::alloc::{AllocError, Global};
@@ -41,7 +43,8 @@ impl World {
         self.desk.plan(alloc, who, command)
     }
 
-    /// The caller takes the desk with a command that is run; nobody holds it. Where the command is refused the desk stays free.
+    /// The caller takes the desk with a command that is run; nobody holds it. Where the command is
+    /// refused the desk stays free.
     pub(crate) fn take(
         &mut self,
         alloc: Global,
@@ -51,7 +54,8 @@ impl World {
         requires may { IsTrue (may self.old.world (take caller command)) }
         requires steps { self.old.steps < 2 ^ 54 }
         ensures ok { OnOk result (self.new ≡ stepped self.old (take caller command)) }
-        ensures answer { IfOk result (λ a. a ≡ said (take caller command) (says self.old.world (take caller command))) }
+        ensures answer { IfOk result (λ a.
+            a ≡ said (take caller command) (says self.old.world (take caller command))) }
         ensures err { OnErr result (self.new ≡ self.old) }
     {
         let who = self.caller(caller).who;

@@ -3,17 +3,17 @@
 ghost use Rattle.std.specs.Prelude.{◌≡◌, ◌<◌, ◌-◌, ◌^◌, ◌∷◌, IfOk, IfSome, IsSome, IsTrue, List, OnErr, OnOk, Some, drop, length};
 ghost use Rattle.std.specs.List.{AllByRecursion};
 ghost use Rattle.kd_desk.specs.declared.part.Part as part;
-ghost use Rattle.kd_core.specs.declared.holder.Holder as code;
-ghost use Rattle.kd_core.specs.Counts.{IsBelow};
-ghost use Rattle.kd_core.specs.Visits.{HasVisited, IsReady, IsSameHolder, IsVisited};
+ghost use Rattle.kd_holds.specs.declared.holder.Holder as code;
+ghost use Rattle.kd_holds.specs.Counts.{IsBelow};
+ghost use Rattle.kd_holds.specs.Visits.{HasVisited, IsReady, IsSameHolder, IsVisited};
 ghost use Rattle.kd_core.specs.Running.{may, said, stepped};
-ghost use Rattle.kd_world.specs.World.{says, visit};
+ghost use Rattle.kd_world.specs.Legal.{visit};
+ghost use Rattle.kd_world.specs.Answers.{says};
 
 use crate::event::Answer;
-use crate::hold::Hold;
-use crate::holder::Holder;
 use crate::world::World;
 use kd_desk::Out;
+use kd_holds::{Hold, Holder};
 use kd_types::Seat;
 use std::alloc::AllocError;
 
@@ -21,10 +21,16 @@ use std::alloc::AllocError;
 fn visit_next(holder: &mut Option<Holder>, pools: &mut Vec<Hold>) -> Result<Out, AllocError>
     requires ready { (h : code.Holder) × (holder.old ≡ Some h) × IsReady h }
     requires counts { AllByRecursion (IsBelow (2 ^ 63 - 1)) pools.old.items }
-    ensures holder { IfOk result (λ out. (h : code.Holder) → holder.old ≡ Some h → IfSome holder.new (λ k. HasVisited h k out)) }
+    ensures holder { IfOk result (λ out.
+        (h : code.Holder) → holder.old ≡ Some h
+        → IfSome holder.new (λ k. HasVisited h k out)) }
     ensures some { IsSome holder.new }
-    ensures pools { IfOk result (λ out. (h : code.Holder) (p : part.Part) (rest : List part.Part) → holder.old ≡ Some h → drop (length h.outs.items) h.plan.parts ≡ p ∷ rest → IsVisited p pools.old.items pools.new.items out) }
-    ensures same { OnErr result ((h : code.Holder) → holder.old ≡ Some h → IfSome holder.new (IsSameHolder h)) }
+    ensures pools { IfOk result (λ out.
+        (h : code.Holder) (p : part.Part) (rest : List part.Part) → holder.old ≡ Some h
+        → drop (length h.outs.items) h.plan.parts ≡ p ∷ rest
+        → IsVisited p pools.old.items pools.new.items out) }
+    ensures same { OnErr result
+        ((h : code.Holder) → holder.old ≡ Some h → IfSome holder.new (IsSameHolder h)) }
     ensures pools_same { OnErr result (pools.new.items ≡ pools.old.items) }
 {
     match holder {
@@ -39,7 +45,8 @@ impl World {
         requires may { IsTrue (may self.old.world (visit caller seat)) }
         requires steps { self.old.steps < 2 ^ 54 }
         ensures ok { OnOk result (self.new ≡ stepped self.old (visit caller seat)) }
-        ensures answer { IfOk result (λ a. a ≡ said (visit caller seat) (says self.old.world (visit caller seat))) }
+        ensures answer { IfOk result
+            (λ a. a ≡ said (visit caller seat) (says self.old.world (visit caller seat))) }
         ensures err { OnErr result (self.new ≡ self.old) }
     {
         let out = visit_next(&mut self.holder, &mut self.pools)?;

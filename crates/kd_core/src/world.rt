@@ -2,14 +2,14 @@
 
 ghost use Rattle.std.specs.Prelude.{◌≡◌, IfOk, replicate, sum_by};
 ghost use Rattle.std.specs.List.{AllByRecursion};
-ghost use Rattle.kd_world.specs.Agreed.{IsReached, IsSoundHold, used_in};
-ghost use Rattle.kd_world.specs.World.{closed, new_world, stranger};
+ghost use Rattle.kd_world.specs.State.{closed_pool, new_world, stranger};
+ghost use Rattle.kd_world.specs.Runs.{IsReached};
+ghost use Rattle.kd_world.specs.Agreed.{IsSoundHold, used_in};
 
 use crate::caller::Caller;
-use crate::hold::Hold;
-use crate::holder::Holder;
 use kd_bloom::Param;
 use kd_desk::{Desk, SEATS};
+use kd_holds::{Hold, Holder};
 use std::alloc::{AllocError, Global};
 use std::marker::Model;
 
@@ -40,7 +40,7 @@ impl Model for World {
 }
 
 fn closed_pools(alloc: Global) -> Result<Vec<Hold>, AllocError>
-    ensures { IfOk result (λ pools. pools.items ≡ replicate 64 closed) }
+    ensures { IfOk result (λ pools. pools.items ≡ replicate 64 closed_pool) }
 {
     let mut pools = Vec::with_capacity(alloc, SEATS)?;
     'seats: for _ in 0..SEATS {
@@ -60,11 +60,12 @@ fn strangers(alloc: Global) -> Result<Vec<Caller>, AllocError>
 }
 
 impl World {
-    /// The world of a new bus, by the user who makes it and the parameter of its filters: 64 callers of whom nothing is known, and no
-    /// connection.
-    #[tactic(auto, unfolding(kd_world::specs::World::new_world, kd_desk::specs::State::opening))]
+    /// The world of a new bus, by the user who makes it and the parameter of its filters: 64
+    /// callers of whom nothing is known, and no connection.
+    #[tactic(auto, unfolding(kd_world::specs::State::new_world, kd_commands::specs::State::opening_desk))]
     pub fn make(alloc: Global, creator: u32, param: Param) -> Result<World, AllocError>
-        ensures opening { IfOk result (λ w. w ≡ record { world = new_world creator param.size param.hashes; steps = 0 }) }
+        ensures opening { IfOk result (λ w.
+            w ≡ record { world = new_world creator param.size param.hashes; steps = 0 }) }
         ensures reached { IfOk result (λ w. IsReached w.world) }
     {
         Ok(World {
@@ -83,7 +84,8 @@ impl World {
         self.steps
     }
 
-    /// How many bytes all slices of all pools take, freed ones that aren't swept included. Every pool is sound.
+    /// How many bytes all slices of all pools take, freed ones that aren't swept included. Every
+    /// pool is sound.
     pub fn used(&self) -> u64
         ensures sum { result ≡ sum_by used_in self.now.world.pools }
         ensures sound { AllByRecursion IsSoundHold self.now.world.pools }

@@ -1,4 +1,4 @@
+-- what a reader has to believe: numbers, what a line says by itself, and what all lines say
 pub mod Numbers
-pub mod BusNames
 pub mod Lines
 pub mod Listen

@@ -5,11 +5,12 @@ use Rattle.kd_creds.specs.declared.error.ListenError.{ListenError}
 use Rattle.kd_creds.specs.declared.error.ListenError.TheVariants.{Malformed, OutOfMemory}
 use Rattle.kd_creds.specs.declared.line.ListenLine.{ListenLine}
 use Rattle.kd_creds.specs.declared.line.ListenLine.TheVariants.{Bus, Socket}
-use Rattle.kd_creds.specs.Lines.{pieces, is_skipped, line_of}
+use Rattle.kd_creds.specs.Lines.{line_pieces, is_skipped, listen_line}
 
--- the lines of a text: what stands between its line feeds. Behind a last line feed there is one more, which is empty and says nothing
+-- the lines of a text: what stands between its line feeds. Behind a last line feed there is one
+-- more, which is empty and says nothing
 abbrev pub lines : List ℕ → List (List ℕ)
-lines text = pieces 10 text
+lines text = line_pieces 10 text
 
 abbrev pub is_socket : ListenLine → Bool
 is_socket (Bus name uid size hashes) = false
@@ -24,24 +25,30 @@ abbrev pub is_bus_called : List ℕ → ListenLine → Bool
 is_bus_called wanted (Bus name uid size hashes) = same name wanted
 is_bus_called wanted (Socket path creds sessions) = false
 
--- whether the line may stand behind these: at most four buses, each of a name of its own, and at most 64 sockets
-abbrev pub may_follow : List ListenLine → ListenLine → Bool
-may_follow given (Bus name uid size hashes) = not (some_of (is_bus_called name) given) && nat_lt (count_by is_bus given) 4
-may_follow given (Socket path creds sessions) = nat_lt (count_by is_socket given) 64
+-- whether the line may stand behind these: at most four buses, each of a name of its own, and at
+-- most 64 sockets
+abbrev pub line_may_follow : List ListenLine → ListenLine → Bool
+line_may_follow given (Bus name uid size hashes) =
+    not (some_of (is_bus_called name) given) && nat_lt (count_by is_bus given) 4
+line_may_follow given (Socket path creds sessions) = nat_lt (count_by is_socket given) 64
 
 -- what is said with a further line, unless it breaks a rule behind those before it
 abbrev pub and_line : List ListenLine → Option ListenLine → Option (List ListenLine)
 and_line given None = None
-and_line given (Some line) = if may_follow given line then Some (given ++ line ∷ []) else None
+and_line given (Some line) = if line_may_follow given line then Some (given ++ line ∷ []) else None
 
-unfoldable pub with_line : List ListenLine → List ℕ → Option (List ListenLine)
-with_line given line = if is_skipped line then Some given else and_line given (line_of line)
+unfoldable pub said_with : List ListenLine → List ℕ → Option (List ListenLine)
+said_with given line = if is_skipped line then Some given else and_line given (listen_line line)
 
--- what the lines say behind those that are given, where the first of them begins at byte `at`; else where the first begins that breaks a rule
+-- what the lines say behind those that are given, where the first of them begins at byte `at`; else
+-- where the first begins that breaks a rule
 unfoldable pub read_lines : ℕ → List ListenLine → List (List ℕ) → Result (List ListenLine) ℕ
 read_lines at given [] = Ok given
 read_lines at given (line ∷ more) =
-    elim (with_line given line) [ None ↦ Err at | Some said ↦ read_lines (at + (length line + 1)) said more ]
+    elim (said_with given line) [
+      | None ↦ Err at
+      | Some said ↦ read_lines (at + (length line + 1)) said more
+    ]
 
 -- there must be a socket; where there is none the text breaks this rule at its end
 abbrev pub with_socket : ℕ → Result (List ListenLine) ℕ → Result (List ListenLine) ℕ

@@ -12,7 +12,8 @@ use std::fmt;
 pub enum ListenError {
     /// A line breaks a rule.
     Malformed {
-        /// Where that line begins, in bytes from the front; the text's length where it has no socket line at all.
+        /// Where that line begins, in bytes from the front; the text's length where it has no
+        /// socket line at all.
         at: usize,
     },
     /// Memory ran out; nothing is said of the text.

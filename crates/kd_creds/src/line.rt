@@ -1,12 +1,13 @@
 //! One line of a configuration.
 
 ghost use Rattle.std.specs.Prelude.{◌≡◌, IfOk};
-ghost use Rattle.kd_creds.specs.Lines.{bus_of, socket_of, rights_of, line_of, said_by, shown};
-ghost use Rattle.kd_creds.specs.Numbers.{number_of};
+ghost use Rattle.kd_creds.specs.Lines.{bus_of, socket_of, rights_of, listen_line, said_by, word_bytes};
+ghost use Rattle.kd_creds.specs.Numbers.{digits_number};
 
-use crate::name::{is_bloom_size, is_bus_name, is_hash_count};
+use crate::bloom::{is_bloom_size, is_hash_count};
 use crate::number::number;
 use crate::word::{is_path, rights, words};
+use kd_name::bus_name_fault;
 use kd_types::{Creds, Text};
 use std::alloc::{AllocError, Global};
 
@@ -42,16 +43,16 @@ pub enum ListenLine {
 }
 
 /// What a line says; None where it breaks a rule by itself.
-#[tactic(auto, unfolding(crate::specs::Lines::line_of))]
+#[tactic(auto, unfolding(crate::specs::Lines::listen_line))]
 pub(crate) fn line_of(alloc: Global, line: &[u8]) -> Result<Option<ListenLine>, AllocError>
-    ensures { IfOk result (λ said. said ≡ line_of line.now) }
+    ensures { IfOk result (λ said. said ≡ listen_line line.now) }
 {
     let words = words(alloc, line)?;
     said_by(alloc, words.as_slice())
 }
 
 fn said_by(alloc: Global, words: &[&[u8]]) -> Result<Option<ListenLine>, AllocError>
-    ensures { IfOk result (λ said. said ≡ said_by (shown words.now)) }
+    ensures { IfOk result (λ said. said ≡ said_by (word_bytes words.now)) }
 {
     match words {
         [kind, name, uid, size, hashes] => {
@@ -91,7 +92,8 @@ fn bus_of(
     let (Some(uid), Some(size), Some(hashes)) = (uid, size, hashes) else {
         return Ok(None);
     };
-    if is_bus_name(alloc, uid, name)? && is_bloom_size(size) && is_hash_count(hashes) {
+    let fault = bus_name_fault(alloc, uid, name)?;
+    if fault.is_none() && is_bloom_size(size) && is_hash_count(hashes) {
         let name = Text::of(alloc, name)?;
         Ok(Some(ListenLine::Bus {
             name,

@@ -3,7 +3,7 @@
 ghost use Rattle.std.specs.Prelude.{◌≡◌, Some, None, if◌then◌else◌, count_by, IfOk, IfErr, Ok, Err};
 ghost use Rattle.kd_types.specs.Words.{some_of};
 ghost use Rattle.kd_creds.specs.Lines.{is_skipped};
-ghost use Rattle.kd_creds.specs.Listen.{is_socket, is_bus, is_bus_called, may_follow, with_line, listen_of, IsMalformedAt};
+ghost use Rattle.kd_creds.specs.Listen.{is_socket, is_bus, is_bus_called, line_may_follow, said_with, listen_of, IsMalformedAt};
 
 use crate::error::ListenError;
 use crate::line::{ListenLine, line_of};
@@ -48,9 +48,11 @@ fn has_socket(given: &[ListenLine]) -> bool
 }
 
 /// Adds what the line says to what was said before; false where it breaks a rule behind that.
-#[tactic(auto, unfolding(crate::specs::Listen::with_line))]
+#[tactic(auto, unfolding(crate::specs::Listen::said_with))]
 fn add_line(alloc: Global, given: &mut Vec<ListenLine>, line: &[u8]) -> Result<bool, AllocError>
-    ensures { IfOk result (λ kept. with_line given.old.items line.now ≡ (if kept then Some given.new.items else None)) }
+    ensures { IfOk result (λ kept.
+        said_with given.old.items line.now
+        ≡ (if kept then Some given.new.items else None)) }
 {
     if is_skipped(line) {
         return Ok(true);
@@ -77,7 +79,7 @@ fn is_skipped(line: &[u8]) -> bool
 
 /// Whether the line may stand behind those that are given.
 fn may_follow(given: &[ListenLine], line: &ListenLine) -> bool
-    ensures { result ≡ may_follow given.now line.now }
+    ensures { result ≡ line_may_follow given.now line.now }
 {
     match line {
         ListenLine::Bus { name, .. } => !has_bus(given, name) && bus_count(given) < BUSES,

@@ -1,16 +1,17 @@
 //! Numbers, written in decimal digits.
 
-ghost use Rattle.std.specs.Prelude.{◌≡◌, IsTrue, Some, None, nat_le, if◌then◌else◌};
+ghost use Rattle.std.specs.Prelude.{◌≡◌, IsTrue};
 ghost use Rattle.kd_types.specs.Words.{all_of};
-ghost use Rattle.kd_creds.specs.Numbers.{is_digit, value_of, number_of};
+ghost use Rattle.kd_name.specs.Names.{is_digit};
+ghost use Rattle.kd_creds.specs.Numbers.{digits_value, digits_number, in_32_bits};
 
 /// The longest number: as many digits as the greatest of 32 bits has.
 const DIGITS: usize = 10;
 
 /// The number that the word writes: one to ten digits, leading zeros allowed, of at most 32 bits.
-#[tactic(auto, unfolding(crate::specs::Numbers::number_of))]
+#[tactic(auto, unfolding(crate::specs::Numbers::digits_number))]
 pub(crate) fn number(word: &[u8]) -> Option<u32>
-    ensures { result ≡ number_of word.now }
+    ensures { result ≡ digits_number word.now }
 {
     if word.is_empty() {
         return None;
@@ -27,8 +28,7 @@ pub(crate) fn number(word: &[u8]) -> Option<u32>
 /// What the digits write, unless it is more than 32 bits hold.
 fn value(digits: &[u8]) -> Option<u32>
     requires { IsTrue (all_of is_digit digits.now) }
-    ensures { result
-        ≡ (if nat_le (value_of digits.now) 4294967295 then Some (value_of digits.now) else None) }
+    ensures { result ≡ in_32_bits (digits_value digits.now) }
 {
     let mut value = 0u64;
     'digits: for digit in digits {

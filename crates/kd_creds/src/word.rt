@@ -2,7 +2,7 @@
 
 ghost use Rattle.std.specs.Prelude.{◌≡◌, ◌==◌, ◌+◌, ◌<◌, ◌∷◌, length, map, position, IfOk, IfSome};
 ghost use Rattle.std.specs.Str.{is_utf8};
-ghost use Rattle.kd_creds.specs.Lines.{pieces, pieces_left, bytes_left, words, rights_of, is_path};
+ghost use Rattle.kd_creds.specs.Lines.{line_pieces, pieces_left, bytes_left, line_words, rights_of, is_path};
 
 use std::alloc::{AllocError, Global};
 use std::str;
@@ -18,7 +18,7 @@ const PATH: usize = 100;
 
 /// The bytes before the first `mark`, and those behind it, where there is one.
 pub(crate) fn cut_at(bytes: &[u8], mark: u8) -> (&[u8], Option<&[u8]>)
-    ensures pieces { pieces mark bytes.now ≡ result.0.now ∷ pieces_left mark result.1 }
+    ensures pieces { line_pieces mark bytes.now ≡ result.0.now ∷ pieces_left mark result.1 }
     ensures sizes { length result.0.now + bytes_left result.1 ≡ length bytes.now }
 {
     match place_of(bytes, mark) {
@@ -40,7 +40,7 @@ fn place_of(bytes: &[u8], mark: u8) -> Option<usize>
 
 /// The words of a line.
 pub(crate) fn words(alloc: Global, line: &[u8]) -> Result<Vec<&[u8]>, AllocError>
-    ensures { IfOk result (λ v. map (λ w. w.now) v.items ≡ words line.now) }
+    ensures { IfOk result (λ v. map (λ w. w.now) v.items ≡ line_words line.now) }
 {
     line.split(|byte| *byte == b' ').collect(alloc)
 }

@@ -9,19 +9,18 @@ use Rattle.kd_types.specs.declared.refusal.Refusal.TheVariants.{TooMany}
 use Rattle.kd_model.specs.Words.{put_in_order}
 use Rattle.kd_wire.specs.declared.reply.Reply.TheVariants as reply
 use Rattle.kd_image.specs.declared.notice.Notice.TheVariants.{IdAdd}
-use Rattle.kd_pool.specs.State.{Content, raise}
+use Rattle.kd_acts.specs.State.{Content, raise}
 use Rattle.kd_desk.specs.declared.change.Change.TheVariants as change
 use Rattle.kd_desk.specs.declared.part.Part as code
-use Rattle.kd_desk.specs.declared.who.WhoKind.TheVariants as who
+use Rattle.kd_commands.specs.declared.who.WhoKind.TheVariants as who
 use Rattle.kd_desk.specs.Arriving.{asked_plainly, plain_conn}
-use Rattle.kd_desk.specs.Audience.{audience, id_add, is_shown, is_told}
-use Rattle.kd_desk.specs.Drafts.{IsVisitable, applied, drafted, parts_with}
-use Rattle.kd_desk.specs.Hello.{free_seat, hello, hello_refusals, newcomer, sits_before, with_newcomer}
-use Rattle.kd_desk.specs.Plans.{Plan, notices, posted, posts}
-use Rattle.kd_desk.specs.Send.{Part}
+use Rattle.kd_commands.specs.Audience.{audience, id_add, is_shown, is_told}
+use Rattle.kd_desk.specs.Drafts.{IsVisitable, StandByOffers, applied, drafted, parts_with}
+use Rattle.kd_commands.specs.Hello.{free_seat, hello, hello_refusals, newcomer, with_newcomer}
+use Rattle.kd_commands.specs.State.{sits_before, Desk}
+use Rattle.kd_commands.specs.Plans.{Plan, notices, posted, posts, Part}
 use Rattle.kd_desk.specs.Room.{IsSeated}
-use Rattle.kd_desk.specs.State.{Desk}
-use Rattle.kd_desk.proofs.Visits.{posts_visits, visitable_of}
+use Rattle.kd_desk.proofs.Visits.{CanBeVisited, contentless, posts_visits, visitable_of}
 
 -- an insert of what fails a test changes nothing of what passes
 filter_put : {X : Type 0} (p : X → Bool) (below : X → X → Bool) (x : X) (xs : List X) → p x ≡ false → filter p (put_in_order below x xs) ≡ filter p xs
@@ -74,5 +73,12 @@ hello_planned d creds size seat qs cs free e h =
     ∙ ap Ok (drafted_alike d creds size seat qs cs e h)
 
 -- and its parts can be visited
+can_visit : (d : Desk) (size seat : ℕ) (qs : List code.Part) → AllByRecursion IsSeated d.conns → seat < 64 → size % 8 ≡ 0 → parts_with [] qs ≡ record { seat = seat; act = raise size } ∷ posts d (id_add d.next_id) → AllByRecursion CanBeVisited (parts_with [] qs)
+can_visit d size seat qs seats below eights h = rw h ((below, eights), posts_visits d (id_add d.next_id) seats)
+
 pub hello_visits : (d : Desk) (size seat : ℕ) (qs : List code.Part) → AllByRecursion IsSeated d.conns → seat < 64 → size % 8 ≡ 0 → parts_with [] qs ≡ record { seat = seat; act = raise size } ∷ posts d (id_add d.next_id) → AllByRecursion IsVisitable qs
-hello_visits d size seat qs seats below eights h = visitable_of qs (rw h ((below, eights), posts_visits d (id_add d.next_id) seats))
+hello_visits d size seat qs seats below eights h = visitable_of qs (can_visit d size seat qs seats below eights h)
+
+-- without contents
+pub hello_contents : (d : Desk) (size seat : ℕ) (qs : List code.Part) (cs : List (Option Content)) → cs ≡ [] → AllByRecursion IsSeated d.conns → seat < 64 → size % 8 ≡ 0 → parts_with [] qs ≡ record { seat = seat; act = raise size } ∷ posts d (id_add d.next_id) → StandByOffers cs qs
+hello_contents d size seat qs cs e seats below eights h = contentless cs qs e (can_visit d size seat qs seats below eights h)

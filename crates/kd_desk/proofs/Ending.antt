@@ -2,17 +2,18 @@
 use Rattle.std.proofs.Common.{◌≡◌, Bool, true, false, List, [], ◌∷◌, Option, Some, None, refl, ap}
 use Rattle.std.specs.Prelude.{Ok}
 use Rattle.kd_types.specs.declared.refusal.Refusal.{Refusal}
-use Rattle.kd_pool.specs.State.{Content}
+use Rattle.kd_acts.specs.State.{Content}
 use Rattle.kd_desk.specs.declared.part.Part as code
 use Rattle.kd_desk.specs.declared.part.Part.TheVariants as part
 use Rattle.kd_desk.specs.declared.part.Out.{Out}
 use Rattle.kd_desk.specs.declared.part.Out.TheVariants as out
-use Rattle.kd_desk.specs.declared.who.Who.{Who}
+use Rattle.kd_commands.specs.declared.who.Who.{Who}
 use Rattle.kd_desk.specs.Drafts.{Draft, drafted, part_with, parts_with}
-use Rattle.kd_desk.specs.Plans.{Plan}
-use Rattle.kd_desk.specs.State.{Desk}
+use Rattle.kd_commands.specs.Plans.{Plan}
+use Rattle.kd_commands.specs.State.{Desk}
 use Rattle.kd_desk.specs.Outs.{answers_of, end, ended_on, is_needed, stops}
-use Rattle.kd_desk.specs.Step.{ended, ended_by, first_ends, is_must}
+use Rattle.kd_commands.specs.Step.{ended, ended_by}
+use Rattle.kd_commands.specs.Visits.{first_ends, is_must}
 
 needed_alike : (content : Option Content) (p : code.Part) → is_must (part_with content p).act ≡ is_needed p
 needed_alike content (part.Raise seat size) = refl

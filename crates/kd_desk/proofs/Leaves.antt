@@ -9,22 +9,21 @@ use Rattle.kd_model.proofs.Lists.{all_of_filter, all_of_found}
 use Rattle.kd_types.specs.declared.creds.Kind.{Kind}
 use Rattle.kd_types.specs.declared.creds.Kind.TheVariants.{Ordinary, Activator, Holder}
 use Rattle.kd_wire.specs.declared.reply.Reply.{Reply}
-use Rattle.kd_pool.specs.State.{Content}
+use Rattle.kd_acts.specs.State.{Content}
 use Rattle.kd_registry.specs.Changes.{changes_without}
 use Rattle.kd_replies.specs.declared.request.Request.{Request}
 use Rattle.kd_replies.specs.Requests.{is_dead_without}
-use Rattle.kd_desk.specs.declared.conn.Conn.{Conn}
-use Rattle.kd_desk.specs.State.{Desk, conn_of, has_id, is_monitor}
-use Rattle.kd_desk.specs.Audience.{Subject, id_remove, new_owner, reply_dead}
-use Rattle.kd_desk.specs.Leaving.{came_before, closed, leave_one, leaving_notices, without_conns}
+use Rattle.kd_commands.specs.declared.conn.Conn.{Conn}
+use Rattle.kd_commands.specs.State.{Desk, conn_of, has_id, is_monitor, came_before}
+use Rattle.kd_commands.specs.Audience.{Subject, id_remove, new_owner, reply_dead}
+use Rattle.kd_commands.specs.Leaving.{closing, leave_one, leaving_notices, without_conns}
 use Rattle.kd_desk.specs.declared.change.Change.TheVariants as change
 use Rattle.kd_desk.specs.declared.part.Part as code
-use Rattle.kd_desk.specs.declared.who.WhoKind.TheVariants as who
-use Rattle.kd_desk.specs.Drafts.{IsVisitable, applied, drafted, parts_with}
+use Rattle.kd_commands.specs.declared.who.WhoKind.TheVariants as who
+use Rattle.kd_desk.specs.Drafts.{IsVisitable, StandByOffers, applied, drafted, parts_with}
 use Rattle.kd_desk.specs.Room.{IsSeated}
-use Rattle.kd_desk.proofs.Visits.{notices_visits, visitable_of}
-use Rattle.kd_desk.specs.Plans.{notices, posts}
-use Rattle.kd_desk.specs.Send.{Part}
+use Rattle.kd_desk.proofs.Visits.{CanBeVisited, contentless, notices_visits, visitable_of}
+use Rattle.kd_commands.specs.Plans.{notices, posts, Part}
 
 abbrev pub owners_gone : Desk → ℕ → List Subject
 owners_gone d id = map new_owner (changes_without d.registry (id ∷ []))
@@ -66,14 +65,21 @@ not_monitor k (inr (inl e)) = ap is_monitor e
 not_monitor k (inr (inr e)) = ap is_monitor e
 
 -- what the code plans is what is asked for
-pub left_plan : (d : Desk) (r : Reply) (force : Bool) (c : Conn) (qs : List code.Part) (cs : List (Option Content)) → cs ≡ [] → parts_with [] qs ≡ closed force c ∷ notices (without_conns d (c.id ∷ [])) (leaving_notices d (c ∷ [])) → leave_one d r force c ≡ drafted d (record { parts = qs; contents = cs; reply = r; change = change.Leaves c.id; after = who.Fresh })
+pub left_plan : (d : Desk) (r : Reply) (force : Bool) (c : Conn) (qs : List code.Part) (cs : List (Option Content)) → cs ≡ [] → parts_with [] qs ≡ closing force c ∷ notices (without_conns d (c.id ∷ [])) (leaving_notices d (c ∷ [])) → leave_one d r force c ≡ drafted d (record { parts = qs; contents = cs; reply = r; change = change.Leaves c.id; after = who.Fresh })
 unfolding drafted applied
 left_plan d r force c qs cs e h = rw (e, h) refl
 
 -- and its parts can be visited
-pub left_visits : (d : Desk) (force : Bool) (c : Conn) (qs : List code.Part) → AllByRecursion IsSeated d.conns → conn_of d c.id ≡ Some c → parts_with [] qs ≡ closed force c ∷ notices (without_conns d (c.id ∷ [])) (leaving_notices d (c ∷ [])) → AllByRecursion IsVisitable qs
+can_visit : (d : Desk) (force : Bool) (c : Conn) (qs : List code.Part) → AllByRecursion IsSeated d.conns → conn_of d c.id ≡ Some c → parts_with [] qs ≡ closing force c ∷ notices (without_conns d (c.id ∷ [])) (leaving_notices d (c ∷ [])) → AllByRecursion CanBeVisited (parts_with [] qs)
 unfolding without_conns
-left_visits d force c qs seats live h =
+can_visit d force c qs seats live h =
     let here : IsSeated c = all_of_found IsSeated (has_id c.id) d.conns c seats live in
     let left : AllByRecursion IsSeated (without_conns d (c.id ∷ [])).conns = all_of_filter IsSeated _ d.conns seats in
-    visitable_of qs (rw h (here, notices_visits (without_conns d (c.id ∷ [])) (leaving_notices d (c ∷ [])) left))
+    rw h (here, notices_visits (without_conns d (c.id ∷ [])) (leaving_notices d (c ∷ [])) left)
+
+pub left_visits : (d : Desk) (force : Bool) (c : Conn) (qs : List code.Part) → AllByRecursion IsSeated d.conns → conn_of d c.id ≡ Some c → parts_with [] qs ≡ closing force c ∷ notices (without_conns d (c.id ∷ [])) (leaving_notices d (c ∷ [])) → AllByRecursion IsVisitable qs
+left_visits d force c qs seats live h = visitable_of qs (can_visit d force c qs seats live h)
+
+-- without contents
+pub left_contents : (d : Desk) (force : Bool) (c : Conn) (qs : List code.Part) (cs : List (Option Content)) → cs ≡ [] → AllByRecursion IsSeated d.conns → conn_of d c.id ≡ Some c → parts_with [] qs ≡ closing force c ∷ notices (without_conns d (c.id ∷ [])) (leaving_notices d (c ∷ [])) → StandByOffers cs qs
+left_contents d force c qs cs e seats live h = contentless cs qs e (can_visit d force c qs seats live h)

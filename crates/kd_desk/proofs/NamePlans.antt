@@ -11,19 +11,17 @@ use Rattle.kd_registry.specs.declared.claim.Claim.{Claim}
 use Rattle.kd_registry.specs.declared.claim.Verdict.{Verdict}
 use Rattle.kd_registry.specs.Claims.{asked, owner_id, ranks, release_answer, released}
 use Rattle.kd_replies.specs.declared.request.Request.{Request}
-use Rattle.kd_desk.specs.declared.conn.Conn.{Conn}
-use Rattle.kd_desk.specs.declared.who.WhoKind.TheVariants as who
+use Rattle.kd_commands.specs.declared.conn.Conn.{Conn}
+use Rattle.kd_commands.specs.declared.who.WhoKind.TheVariants as who
 use Rattle.kd_desk.specs.declared.part.Part as code
 use Rattle.kd_desk.specs.declared.change.Change.TheVariants as change
-use Rattle.kd_desk.specs.State.{Desk}
-use Rattle.kd_desk.specs.Rights.{may_see_name}
-use Rattle.kd_desk.specs.Audience.{audience, is_shown, new_owner}
-use Rattle.kd_desk.specs.Send.{Part}
-use Rattle.kd_desk.specs.Plans.{Plan, itself, notices, posts, announced}
-use Rattle.kd_desk.specs.Hello.{owner_change}
-use Rattle.kd_desk.specs.Naming.{activator_in, is_queued, handover, with_claim, acquire_plan, acquire_refusals, name_acquire, has_claim, without_claim, release_refusals, name_release}
+use Rattle.kd_commands.specs.State.{Desk}
+use Rattle.kd_commands.specs.Rights.{may_see_name}
+use Rattle.kd_commands.specs.Audience.{audience, is_shown, new_owner, owner_change}
+use Rattle.kd_commands.specs.Plans.{Part, Plan, itself, notices, posts, announced}
+use Rattle.kd_commands.specs.Names.{activator_in, is_queued, handover, with_claim, acquire_plan, acquire_refusals, name_acquire, has_claim, without_claim, release_refusals, name_release}
 use Rattle.kd_desk.specs.Drafts.{Draft, Fits, parts_with, applied, drafted}
-use Rattle.kd_desk.specs.Runs.{has_activator, takes_over, acquire_answered}
+use Rattle.kd_desk.specs.Runs.{names_activator, takes_over, acquire_answered}
 use Rattle.kd_desk.specs.Owners.{moved, owner_by, acquire_judged, hidden, release_judged}
 use Rattle.kd_desk.proofs.Owning.{owned_by_some, owner_acquired}
 
@@ -119,7 +117,7 @@ release_fits d id n o e = (o, e)
 -- ---- acquiring
 
 abbrev answered_by : Option Refusal → Result Verdict Refusal → (Verdict → Plan) → Result Plan Refusal
-answered_by o k plan = elim (is_none o && has_activator k) [ true ↦ Err (Unsupported 8) | false ↦ elim o [ Some r ↦ Err r | None ↦ elim k [ Err r ↦ Err r | Ok v ↦ Ok (plan v) ] ] ]
+answered_by o k plan = elim (is_none o && names_activator k) [ true ↦ Err (Unsupported 8) | false ↦ elim o [ Some r ↦ Err r | None ↦ elim k [ Err r ↦ Err r | Ok v ↦ Ok (plan v) ] ] ]
 
 abbrev verdict_by : Option Refusal → Result Verdict Refusal → Result Verdict Refusal
 verdict_by o k = elim o [ Some r ↦ Err r | None ↦ k ]

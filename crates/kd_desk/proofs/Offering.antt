@@ -1,20 +1,20 @@
 -- Offers: their parts, the seats of their receivers, and their lengths.
-use Rattle.std.proofs.Common.{◌≡◌, ℕ, ◌+◌, ◌%◌, ◌<◌, suc, zero, Bool, List, [], ◌∷◌, ◌++◌, length, get_or, Option, Some, None, refl, ap, arith, length-append}
+use Rattle.std.proofs.Common.{◌≡◌, ℕ, ◌%◌, ◌<◌, suc, zero, Bool, true, false, is_some, sym, map, List, [], ◌∷◌, ◌++◌, length, get_or, Option, Some, None, refl, ap, arith, length-append}
 use Rattle.std.specs.List.{AllByRecursion}
-use Rattle.kd_item.specs.Spelling.{Entry, spellings}
+use Rattle.kd_item.proofs.Sizes.{spellings_even}
 use Rattle.kd_image.specs.declared.message.Message.{Message}
 use Rattle.kd_image.specs.declared.attached.Attached.{Attached}
 use Rattle.kd_image.specs.Items.{padded_length, contents, items}
 use Rattle.kd_image.specs.Images.{padded, laid, front_length, image_length, front, image}
-use Rattle.kd_image.proofs.Lengths.{length-spelling, length_cons, length-padded, length_parts}
-use Rattle.kd_pool.specs.State.{Content}
-use Rattle.kd_desk.specs.declared.conn.Conn.{Conn}
+use Rattle.kd_image.proofs.Lengths.{length-padded, length_parts}
+use Rattle.kd_acts.specs.State.{Content}
+use Rattle.kd_commands.specs.declared.conn.Conn.{Conn}
 use Rattle.kd_desk.specs.declared.part.Part as code
 use Rattle.kd_desk.specs.declared.part.Part.TheVariants as part
-use Rattle.kd_desk.specs.Drafts.{parts_with, part_with, IsLength, IsVisitable}
-use Rattle.kd_desk.specs.Send.{attached}
-use Rattle.kd_desk.specs.Sending.{offered}
-use Rattle.kd_desk.specs.State.{Desk}
+use Rattle.kd_desk.specs.Drafts.{parts_with, part_with, IsLength, IsVisitable, StandByOffers, content_at, is_offer}
+use Rattle.kd_commands.specs.Messages.{attached}
+use Rattle.kd_desk.specs.Sending.{plain_offer}
+use Rattle.kd_commands.specs.State.{Desk}
 use Rattle.kd_desk.specs.Room.{IsSeated}
 
 -- one part more, with its content
@@ -25,9 +25,19 @@ parts_more [] (q ∷ ps) c p e = absurd (omega (arith, e))
 parts_more (d ∷ cs) [] c p e = absurd (omega (arith, e))
 parts_more (d ∷ cs) (q ∷ ps) c p e = ap (λ (l : List _). part_with d q ∷ l) (parts_more cs ps c p (omega (arith, e)))
 
-pub each_more : {X : Type 0} (P : X → Type 0) (xs : List X) (x : X) → AllByRecursion P xs → P x → AllByRecursion P (xs ++ x ∷ [])
-each_more P [] x all one = (one, tt)
-each_more P (y ∷ xs) x all one = (all.0, each_more P xs x all.1 one)
+content_more : (cs : List (Option Content)) (ps : List code.Part) (c : Content) (p : code.Part) → length cs ≡ length ps → is_offer p ≡ true
+    → ((n : ℕ) → is_some (content_at n cs) ≡ get_or (map is_offer ps) n false) → (n : ℕ) → is_some (content_at n (cs ++ Some c ∷ [])) ≡ get_or (map is_offer (ps ++ p ∷ [])) n false
+content_more [] [] c p e o all zero = sym o
+content_more [] [] c p e o all (suc n) = all n
+content_more [] (q ∷ ps) c p e o all n = absurd (omega (arith, e))
+content_more (d ∷ cs) [] c p e o all n = absurd (omega (arith, e))
+content_more (d ∷ cs) (q ∷ ps) c p e o all zero = all zero
+content_more (d ∷ cs) (q ∷ ps) c p e o all (suc n) = content_more cs ps c p (omega (arith, e)) o (λ k. all (suc k)) n
+
+-- each offer still has its content
+pub contents_more : (cs : List (Option Content)) (ps : List code.Part) (c : Content) (p : code.Part) → length cs ≡ length ps → is_offer p ≡ true → StandByOffers cs ps → StandByOffers (cs ++ Some c ∷ []) (ps ++ p ∷ [])
+unfolding StandByOffers
+contents_more cs ps c p e o all = content_more cs ps c p e o all
 
 -- the seat at a place
 pub seat_at : (cs : List Conn) (i : ℕ) (d : Conn) → AllByRecursion IsSeated cs → i < length cs → (get_or cs i d).seat < 64
@@ -38,10 +48,6 @@ seat_at (c ∷ cs) (suc i) d all lt = seat_at cs i d all.1 (omega (arith, lt))
 -- what is filled up is even
 pub padded_even : (n : ℕ) → padded_length n % 8 ≡ 0
 padded_even n = omega arith
-
-pub spellings_even : (es : List Entry) → length (spellings es) % 8 ≡ 0
-spellings_even [] = refl
-spellings_even (e ∷ es) = omega (arith, length_cons e es, length-spelling e, padded_even (16 + length e.body), spellings_even es)
 
 pub laid_even : (ps : List (List ℕ)) → length (laid ps) % 8 ≡ 0
 laid_even [] = refl
@@ -60,6 +66,6 @@ offer_fits seat user len source must m a low is = rw is (low, image_even m a)
 -- a part with its content, as they are made, is what is offered
 pub offered_is : (d : Desk) (s : Conn) (g : Message) (dst : ℕ) (must : Bool) (r : Conn) (a : Attached) (len : ℕ) (payload : List ℕ) (content : Content)
     → a ≡ attached d s r → len ≡ length (image g s.id dst a) → content ≡ record { image = front g s.id dst a ++ payload; shared = None; priority = g.priority } → payload ≡ laid g.payloads
-    → part_with (Some content) (part.Offer r.seat s.creds.uid len s.id must) ≡ offered d s g dst must r
-unfolding offered image
+    → part_with (Some content) (part.Offer r.seat s.creds.uid len s.id must) ≡ plain_offer d s g dst must r
+unfolding plain_offer image
 offered_is d s g dst must r a len payload content a_is len_is content_is payload_is = rw (len_is, content_is, payload_is, a_is) refl

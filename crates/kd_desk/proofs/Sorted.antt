@@ -5,10 +5,10 @@ use Rattle.std.proofs.lemmas.List.{append-nil, take_more, take-append-drop}
 use Rattle.kd_model.specs.Words.{all_of}
 use Rattle.kd_wire.specs.declared.item.WireItem.{WireItem}
 use Rattle.kd_wire.specs.declared.item.WireItem.TheVariants as item
-use Rattle.kd_desk.specs.declared.sent.Sent.{Sent}
-use Rattle.kd_desk.specs.Items.{destination_name, payloads, seal_behind}
+use Rattle.kd_commands.specs.declared.sent.Sent.{Sent}
+use Rattle.kd_commands.specs.Items.{destination_name, payloads, seal_behind}
 use Rattle.kd_desk.specs.Runs.{is_plain}
-use Rattle.kd_desk.specs.Send.{message_of}
+use Rattle.kd_commands.specs.Messages.{message_of}
 
 -- a name that stands before comes first
 pub name_behind : (xs ys : List WireItem) → destination_name xs ≡ None → destination_name (xs ++ ys) ≡ destination_name ys

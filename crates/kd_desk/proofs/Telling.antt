@@ -14,16 +14,16 @@ use Rattle.kd_match.specs.declared.rule.Rule.{Rule}
 use Rattle.kd_match.specs.Rules.{Table, admits, rule_admits, rules_of, without_conn}
 use Rattle.kd_match.specs.Told as told
 use Rattle.kd_match.specs.Told.{Told}
-use Rattle.kd_desk.specs.declared.conn.Conn.{Conn}
+use Rattle.kd_commands.specs.declared.conn.Conn.{Conn}
 use Rattle.kd_desk.specs.declared.notices.News.{News}
 use Rattle.kd_desk.specs.declared.notices.News.TheVariants as news
-use Rattle.kd_desk.specs.State.{Desk, is_monitor, is_ordinary}
-use Rattle.kd_desk.specs.Audience.{asks_for, audience, is_shown, is_told, sees_ids, told_of}
-use Rattle.kd_desk.specs.Leaving.{without_conns}
-use Rattle.kd_desk.specs.News.{change_in, still_told, subject_of, telling_of, without_leaver}
-use Rattle.kd_desk.specs.Plans.{posted, posts}
-use Rattle.kd_desk.specs.Rights.{may_see_name, reaches}
-use Rattle.kd_desk.proofs.Gone.{conns_without}
+use Rattle.kd_commands.specs.State.{Desk, is_monitor, is_ordinary}
+use Rattle.kd_commands.specs.Audience.{asks_for, audience, is_shown, is_told, sees_ids, change_told}
+use Rattle.kd_commands.specs.Leaving.{without_conns}
+use Rattle.kd_desk.specs.News.{still_told, news_subject, telling_of, without_leaver}
+use Rattle.kd_commands.specs.Plans.{posted, posts}
+use Rattle.kd_commands.specs.Rights.{may_see_name, reaches}
+use Rattle.kd_commands.proofs.Gone.{conns_without}
 
 held_without : (e id : ℕ) (o : Owner) (es : List Entry) (p q : Policy) → list_of (scope.Endpoint e) q ≡ list_of (scope.Endpoint e) p → list_of (scope.Endpoint e) (cond (not (is_held_by (owner.Conn id) (record { owner = o; entries = es }))) (record { owner = o; entries = es } ∷ q) q) ≡ part_of (scope.Endpoint e) (record { owner = o; entries = es }) ++ list_of (scope.Endpoint e) p
 held_without e id (owner.Conn a) es p q h = go (a == id)
@@ -60,13 +60,13 @@ admits_without : (table : Table) (id other : ℕ) (t : Told) → (other == id) �
 admits_without table id other t apart = ap (some_of (rule_admits t)) (rules_without id other table.rules apart)
 
 -- those that stay are told as before
-told_without : (d : Desk) (n : News) (id : ℕ) (c : Conn) → (c.id == id) ≡ false → is_told (without_conns d (id ∷ [])) (subject_of n) c ≡ is_told d (subject_of n) c
+told_without : (d : Desk) (n : News) (id : ℕ) (c : Conn) → (c.id == id) ≡ false → is_told (without_conns d (id ∷ [])) (news_subject n) c ≡ is_told d (news_subject n) c
 unfolding is_shown without_conns
 told_without d (news.Came i) id c apart = ap (λ b. is_monitor c.kind || false || (is_ordinary c.kind && (sees_ids c i && b))) (admits_without d.rules id c.id (told.id_add i) apart)
 told_without d (news.Left i) id c apart = ap (λ b. is_monitor c.kind || false || (is_ordinary c.kind && (sees_ids c i && b))) (admits_without d.rules id c.id (told.id_remove i) apart)
 told_without d (news.Owner x) id c apart =
-    ap (λ b. is_monitor c.kind || false || (is_ordinary c.kind && (b && asks_for (without_conns d (id ∷ [])) c (told_of (change_in x.now))))) (sees_without d id c x.now.name)
-    ∙ ap (λ b. is_monitor c.kind || false || (is_ordinary c.kind && (may_see_name d c x.now.name && b))) (admits_without d.rules id c.id (told_of (change_in x.now)) apart)
+    ap (λ b. is_monitor c.kind || false || (is_ordinary c.kind && (b && asks_for (without_conns d (id ∷ [])) c (change_told x.now)))) (sees_without d id c x.now.name)
+    ∙ ap (λ b. is_monitor c.kind || false || (is_ordinary c.kind && (may_see_name d c x.now.name && b))) (admits_without d.rules id c.id (change_told x.now) apart)
 told_without d (news.Dead asker cookie) id c apart = refl
 
 filter_twice : {X : Type 0} (gone p q : X → Bool) → ((x : X) → gone x ≡ false → p x ≡ q x) → (xs : List X) → filter p (but_those gone xs) ≡ filter (λ x. not (gone x) && q x) xs
@@ -77,15 +77,15 @@ filter_twice gone p q h (x ∷ xs) = go (gone x) refl (filter_twice gone p q h x
     go true e ih = ih
     go false e ih = ap (λ b. cond b (x ∷ filter p (but_those gone xs)) (filter p (but_those gone xs))) (h x e) ∙ ap (λ ys. cond (q x) (x ∷ ys) ys) ih
 
-audience_without : (leaver : Option ℕ) (d : Desk) (n : News) → audience (without_leaver leaver d) (subject_of n) ≡ those (still_told leaver d (subject_of n)) d.conns
+audience_without : (leaver : Option ℕ) (d : Desk) (n : News) → audience (without_leaver leaver d) (news_subject n) ≡ those (still_told leaver d (news_subject n)) d.conns
 unfolding audience without_conns
 audience_without None d n = refl
 audience_without (Some id) d n =
-    ap (those (is_told (without_conns d (id ∷ [])) (subject_of n))) (conns_without id d.conns)
-    ∙ filter_twice (λ (c : Conn). c.id == id) (is_told (without_conns d (id ∷ [])) (subject_of n)) (is_told d (subject_of n)) (λ c apart. told_without d n id c apart) d.conns
+    ap (those (is_told (without_conns d (id ∷ [])) (news_subject n))) (conns_without id d.conns)
+    ∙ filter_twice (λ (c : Conn). c.id == id) (is_told (without_conns d (id ∷ [])) (news_subject n)) (is_told d (news_subject n)) (λ c apart. told_without d n id c apart) d.conns
 
 -- a notice goes to those that stay and are told
-pub posts_without : (leaver : Option ℕ) (d : Desk) (n : News) → posts (without_leaver leaver d) (subject_of n) ≡ map (posted (telling_of n)) (those (still_told leaver d (subject_of n)) d.conns)
+pub posts_without : (leaver : Option ℕ) (d : Desk) (n : News) → posts (without_leaver leaver d) (news_subject n) ≡ map (posted (telling_of n)) (those (still_told leaver d (news_subject n)) d.conns)
 posts_without leaver d (news.Came id) = ap (map (posted (telling_of (news.Came id)))) (audience_without leaver d (news.Came id))
 posts_without leaver d (news.Left id) = ap (map (posted (telling_of (news.Left id)))) (audience_without leaver d (news.Left id))
 posts_without leaver d (news.Owner x) = ap (map (posted (telling_of (news.Owner x)))) (audience_without leaver d (news.Owner x))

@@ -1,25 +1,24 @@
 -- The plans of the code, beside those of the definitions.
-use Rattle.std.specs.Prelude.{◌≡◌, ◌<◌, ◌+◌, ◌-◌, ◌^◌, ◌%◌, ℕ, List, [], ◌∷◌, length, map, Option, None, Result, Ok, Err, get_or, set, unwrap_or, pos}
+use Rattle.std.specs.Prelude.{◌≡◌, ◌<◌, ◌+◌, ◌-◌, ◌^◌, ◌%◌, ℕ, ℤ, Bool, true, false, is_some, List, [], ◌∷◌, length, map, Option, None, Result, Ok, Err, get_or, set, unwrap_or, pos}
 use Rattle.std.specs.List.{AllByRecursion}
 use Rattle.kd_types.specs.declared.refusal.Refusal.{Refusal}
 use Rattle.kd_model.specs.Words.{but_those, put_in_order}
 use Rattle.kd_wire.specs.declared.reply.Reply.{Reply}
 use Rattle.kd_registry.specs.Claims.{asked, release_answer}
-use Rattle.kd_replies.specs.Requests.{waits}
-use Rattle.kd_pool.specs.State.{Content, raise, close, offer, post, drain, settle}
-use Rattle.kd_desk.specs.declared.who.WhoKind.{WhoKind}
+use Rattle.kd_replies.specs.Requests.{request_waits}
+use Rattle.kd_acts.specs.State.{Content, raise, close, offer, post, drain, settle}
+use Rattle.kd_commands.specs.declared.who.WhoKind.{WhoKind}
 use Rattle.kd_desk.specs.declared.part.Part as code
 use Rattle.kd_desk.specs.declared.part.Part.TheVariants as part
 use Rattle.kd_desk.specs.declared.change.Change.{Change}
 use Rattle.kd_desk.specs.declared.change.Change.TheVariants as change
-use Rattle.kd_desk.specs.State.{Desk}
-use Rattle.kd_desk.specs.Send.{Part}
-use Rattle.kd_desk.specs.Plans.{Plan}
-use Rattle.kd_desk.specs.Hello.{sits_before}
-use Rattle.kd_desk.specs.Leaving.{without_conns, unblocked}
-use Rattle.kd_desk.specs.Naming.{with_claim, without_claim}
+use Rattle.kd_commands.specs.State.{Desk, sits_before, unblocked}
+use Rattle.kd_commands.specs.Plans.{Part, Plan}
+use Rattle.kd_commands.specs.Leaving.{without_conns}
+use Rattle.kd_commands.specs.Names.{with_claim, without_claim}
 
--- a plan as the code holds it; the contents of its offers stand by the place of their parts, until they are taken
+-- a plan as the code holds it; the contents of its offers stand by the place of their parts, until
+-- they are taken
 pub record Draft : Type 0 where
   pub parts : List code.Part
   pub contents : List (Option Content)
@@ -35,14 +34,21 @@ unfoldable pub without_content : ℕ → Draft → Draft
 without_content n p = record p { contents = set p.contents n None }
 
 -- where an offer's content was taken
-abbrev pub nothing : Content
-nothing = record { image = []; shared = None; priority = pos 0 }
+abbrev pub empty_content : Content
+empty_content = record { image = []; shared = None; priority = pos 0 }
+
+-- a content without sealed bytes
+abbrev pub plain_content : List ℕ → ℤ → Content
+plain_content image priority = record { image = image; shared = None; priority = priority }
 
 -- a part of the code, with the content of its offer
 abbrev pub part_with : Option Content → code.Part → Part
 part_with c (part.Raise seat size) = record { seat = seat; act = raise size }
 part_with c (part.Close seat force) = record { seat = seat; act = close force }
-part_with c (part.Offer seat user len from must) = record { seat = seat; act = offer user len from must (unwrap_or c nothing) }
+part_with c (part.Offer seat user len from must) = record {
+  seat = seat;
+  act = offer user len from must (unwrap_or c empty_content);
+}
 part_with c (part.Post seat image) = record { seat = seat; act = post image }
 part_with c (part.Drain seat size) = record { seat = seat; act = drain }
 part_with c (part.Settle seat) = record { seat = seat; act = settle [] }
@@ -56,30 +62,55 @@ seat_in (part.Post seat image) = seat
 seat_in (part.Drain seat size) = seat
 seat_in (part.Settle seat) = seat
 
+-- the part asks for room for a message
+abbrev pub is_offer : code.Part → Bool
+is_offer (part.Offer seat user len from must) = true
+is_offer _ = false
+
+-- each place with an offer has its content, and no other place has one
+unfoldable pub StandByOffers : List (Option Content) → List code.Part → Type 0
+StandByOffers cs ps = (n : ℕ) → is_some (content_at n cs) ≡ get_or (map is_offer ps) n false
+
 -- parts without offers need no contents
 abbrev pub parts_with : List (Option Content) → List code.Part → List Part
 parts_with [] ps = map (part_with None) ps
 parts_with (c ∷ cs) [] = []
 parts_with (c ∷ cs) (p ∷ ps) = part_with c p ∷ parts_with cs ps
 
+-- a plan of the code that visits nobody
+abbrev pub quiet_draft : Reply → Change → WhoKind → Draft
+quiet_draft reply change after =
+    record { parts = []; contents = []; reply = reply; change = change; after = after }
+
 -- the desk after a change
 unfoldable pub applied : Change → Desk → Desk
 applied change.Nothing d = d
-applied (change.Arrives c) d = record d { conns = put_in_order sits_before c d.conns; next_id = d.next_id + 1 }
+applied (change.Arrives c) d = record d {
+  conns = put_in_order sits_before c d.conns;
+  next_id = d.next_id + 1;
+}
 applied (change.Leaves id) d = without_conns d (id ∷ [])
 applied (change.Unblocks seat) d = unblocked seat d
-applied (change.Answers asker cookie) d = record d { requests = but_those (waits asker cookie) d.requests }
+applied (change.Answers asker cookie) d = record d {
+  requests = but_those (request_waits asker cookie) d.requests;
+}
 applied (change.Acquires id flags n verdict) d = with_claim d id flags n verdict
 applied (change.Releases id n) d = without_claim d id n
 
 -- a plan of the code, on the desk that it was made for
 unfoldable pub drafted : Desk → Draft → Plan
-drafted d p = record { parts = parts_with p.contents p.parts; reply = p.reply; next = applied p.change d; becomes = p.after }
+drafted d p = record {
+  parts = parts_with p.contents p.parts;
+  reply = p.reply;
+  next = applied p.change d;
+  becomes = p.after;
+}
 
 -- the desk can make the change without memory
 unfoldable pub Fits : Desk → Change → Type 0
 Fits d (change.Arrives c) = (length d.conns < 64) × (c.seat < 64) × (d.next_id < 2 ^ 64 - 1)
-Fits d (change.Acquires id flags n verdict) = (asked d.registry id n flags ≡ Ok verdict) × (length d.registry < 4160)
+Fits d (change.Acquires id flags n verdict) =
+    (asked d.registry id n flags ≡ Ok verdict) × (length d.registry < 4160)
 Fits d (change.Releases id n) = (owner : ℕ) × (release_answer d.registry id n ≡ Ok owner)
 Fits d _ = Unit {0}
 
@@ -87,7 +118,8 @@ Fits d _ = Unit {0}
 abbrev pub IsLength : ℕ → Type 0
 IsLength n = (0 < n) × (n % 8 ≡ 0)
 
--- what a pool can take: its seat is one of 64, and lengths are whole words; so far nothing is drained
+-- what a pool can take: its seat is one of 64, and lengths are whole words; so far nothing is
+-- drained
 unfoldable pub IsVisitable : code.Part → Type 0
 IsVisitable (part.Raise seat size) = (seat < 64) × (size % 8 ≡ 0)
 IsVisitable (part.Close seat force) = seat < 64
@@ -96,8 +128,16 @@ IsVisitable (part.Post seat image) = (seat < 64) × IsLength (length image)
 IsVisitable (part.Drain seat size) = ⊥
 IsVisitable (part.Settle seat) = ⊥
 
--- what the code plans is what is asked for, and it refuses just what is refused; but memory may be wanting
-abbrev pub Answers : Desk → Result Plan Refusal → Result Draft Refusal → Type 0
-Answers d wanted (Ok p) = (wanted ≡ Ok (drafted d p)) × Fits d p.change × AllByRecursion IsVisitable p.parts
-Answers d wanted (Err Refusal.OutOfMemory) = Unit {0}
-Answers d wanted (Err e) = wanted ≡ Err e
+-- offers, each with its content, that pools can take
+abbrev pub AreOffers : List (Option Content) → List code.Part → Type 0
+AreOffers cs ps =
+    (length cs ≡ length ps) × AllByRecursion IsVisitable ps × StandByOffers cs ps
+
+-- what the code plans is what is asked for, with the content of each offer, and it refuses just
+-- what is refused; but memory may be wanting
+abbrev pub PlanResult : Desk → Result Plan Refusal → Result Draft Refusal → Type 0
+PlanResult d wanted (Ok p) =
+    (wanted ≡ Ok (drafted d p)) × Fits d p.change × AllByRecursion IsVisitable p.parts
+    × StandByOffers p.contents p.parts
+PlanResult d wanted (Err Refusal.OutOfMemory) = Unit {0}
+PlanResult d wanted (Err e) = wanted ≡ Err e

@@ -1,21 +1,22 @@
-pub mod State
-pub mod Items
-pub mod Rights
-pub mod Audience
-pub mod Send
-pub mod Plans
-pub mod Hello
-pub mod Leaving
-pub mod Naming
-pub mod Asking
-pub mod Step
+-- What contracts of the desk's code cite, in reading order. What commands come to stands in
+-- kd_commands. Of this crate a reader has to believe what a desk and a plan are seen as, which
+-- commands run so far, and what a plan leaves; the other files name steps on the way.
+
+-- what contracts see of a desk
 pub mod Room
+-- the plans of the code, beside those of the definitions
 pub mod Drafts
+-- what is run so far
 pub mod Runs
+-- what a plan leaves, by what the pools answered
 pub mod Outs
-pub mod Owners
-pub mod Listing
-pub mod News
+-- steps: the first connection of a caller
 pub mod Arriving
+-- steps: notices
+pub mod News
+-- steps: names and their owners
+pub mod Owners
+-- steps: the lines of a listing
+pub mod Listing
+-- steps: messages to one receiver
 pub mod Sending
-pub mod Seating

@@ -1,31 +1,25 @@
 -- What the bus tells by itself, as the code holds it.
 use Rattle.std.specs.Prelude.{ℕ, Bool, false, not, ◌&&◌, [], ◌∷◌, ◌==◌, Option, Some, None}
-use Rattle.kd_match.specs.declared.subject.Change as told
-use Rattle.kd_registry.specs.declared.claim.Change.{Change}
 use Rattle.kd_image.specs.declared.notice.Notice.TheVariants as notice
-use Rattle.kd_desk.specs.declared.conn.Conn.{Conn}
+use Rattle.kd_commands.specs.declared.conn.Conn.{Conn}
 use Rattle.kd_desk.specs.declared.notices.News.{News}
 use Rattle.kd_desk.specs.declared.notices.News.TheVariants as news
-use Rattle.kd_desk.specs.State.{Desk}
-use Rattle.kd_desk.specs.Audience.{Subject, Telling, id_add, id_remove, new_owner, reply_dead, owner_notice, is_told}
-use Rattle.kd_desk.specs.Leaving.{without_conns}
-
--- a change of a name's owner, as the definitions of claims have it
-abbrev pub change_in : told.Change → Change
-change_in c = record { name = c.name; old = c.old; new = c.new }
+use Rattle.kd_commands.specs.State.{Desk}
+use Rattle.kd_commands.specs.Audience.{Subject, Telling, id_add, id_remove, new_owner, reply_dead, owner_notice, is_told}
+use Rattle.kd_commands.specs.Leaving.{without_conns}
 
 -- what is told
-abbrev pub subject_of : News → Subject
-subject_of (news.Came id) = id_add id
-subject_of (news.Left id) = id_remove id
-subject_of (news.Owner c) = new_owner (change_in c.now)
-subject_of (news.Dead asker cookie) = reply_dead asker cookie
+abbrev pub news_subject : News → Subject
+news_subject (news.Came id) = id_add id
+news_subject (news.Left id) = id_remove id
+news_subject (news.Owner c) = new_owner c.now
+news_subject (news.Dead asker cookie) = reply_dead asker cookie
 
 -- its notice, and the id that its image names as destination
 abbrev pub telling_of : News → Telling
 telling_of (news.Came id) = record { notice = notice.IdAdd id; dst = 0 }
 telling_of (news.Left id) = record { notice = notice.IdRemove id; dst = 0 }
-telling_of (news.Owner c) = record { notice = owner_notice (change_in c.now); dst = 0 }
+telling_of (news.Owner c) = record { notice = owner_notice c.now; dst = 0 }
 telling_of (news.Dead asker cookie) = record { notice = notice.ReplyDead cookie; dst = asker }
 
 -- it is the one that leaves

@@ -3,24 +3,28 @@ use Rattle.std.specs.Prelude.{Bool, true, false, not, List, ◌∷◌, Option, S
 use Rattle.kd_types.specs.declared.refusal.Refusal.{Refusal}
 use Rattle.kd_wire.specs.declared.reply.Reply.{Reply}
 use Rattle.kd_wire.specs.declared.reply.Reply.TheVariants as reply
-use Rattle.kd_pool.specs.State.{Answer, done, slice, refused}
+use Rattle.kd_acts.specs.State.{Answer, done, slice, refused}
 use Rattle.kd_desk.specs.declared.part.Part as code
 use Rattle.kd_desk.specs.declared.part.Part.TheVariants as part
 use Rattle.kd_desk.specs.declared.part.Out.{Out}
 use Rattle.kd_desk.specs.declared.part.Out.TheVariants as out
-use Rattle.kd_desk.specs.State.{Desk}
-use Rattle.kd_desk.specs.Plans.{Plan}
-use Rattle.kd_desk.specs.Step.{first_ends}
-use Rattle.kd_desk.specs.Drafts.{Draft, drafted}
+use Rattle.kd_commands.specs.State.{Desk}
+use Rattle.kd_commands.specs.Plans.{Plan}
+use Rattle.kd_commands.specs.Visits.{first_ends}
+use Rattle.kd_desk.specs.Drafts.{Draft, drafted, parts_with}
 
 -- an answer as the definitions of pools have it
-abbrev pub answer_of : Out → Answer
-answer_of out.Done = done
-answer_of (out.Slice number) = slice number
-answer_of (out.Refused why) = refused why
+abbrev pub out_answer : Out → Answer
+out_answer out.Done = done
+out_answer (out.Slice number) = slice number
+out_answer (out.Refused why) = refused why
 
 abbrev pub answers_of : List Out → List Answer
-answers_of outs = map answer_of outs
+answers_of outs = map out_answer outs
+
+-- the refusal that ends all, if the first part had to be done and was refused
+abbrev pub why_ended : Draft → List Out → Option Refusal
+why_ended p outs = first_ends (parts_with p.contents p.parts) (answers_of outs)
 
 -- the reply to a command, and the desk after it
 pub record End : Type 0 where

@@ -1,9 +1,14 @@
 -- What contracts see of a desk, what its tables have room for, and where its connections sit.
-use Rattle.std.specs.Prelude.{◌≡◌, ◌≤◌, ◌<◌, vec_capacity}
-use Rattle.std.specs.List.{AllByRecursion}
-use Rattle.kd_desk.specs.declared.conn.Conn.{Conn}
+use Rattle.std.specs.Prelude.{◌≡◌, ◌≤◌, ◌<◌, ℕ, Bool, false, List, get_or, vec_capacity}
+use Rattle.std.specs.List.{AllByRecursion, range_with_len}
+use Rattle.kd_model.specs.Words.{those}
+use Rattle.kd_commands.specs.declared.conn.Conn.{Conn}
 use Rattle.kd_desk.specs.declared.desk.Desk.TheInside.{Inside}
-use Rattle.kd_desk.specs.State.{Desk}
+use Rattle.kd_commands.specs.State.{Desk}
+
+-- the seats that have a mark, by rising number
+unfoldable pub marked : List Bool → List ℕ
+marked marks = those (λ seat. get_or marks seat false) (range_with_len 0 64)
 
 -- the table of rules has the size of the bus's filters
 abbrev pub desk_of : Inside → Desk
@@ -11,7 +16,7 @@ desk_of d = record {
   creator = d.creator;
   hashes = d.param.hashes;
   conns = d.conns.items;
-  blocked = d.gone.items;
+  blocked = marked d.gone;
   endpoints = d.endpoints;
   policy = d.policy;
   registry = d.registry;
@@ -29,5 +34,4 @@ IsSeated c = c.seat < 64
 pub record HasRoom (d : Inside) : Type 0 where
   pub size : d.param.size ≡ d.matches.size
   pub conns : 64 ≤ vec_capacity d.conns
-  pub gone : 64 ≤ vec_capacity d.gone
   pub seats : AllByRecursion IsSeated d.conns.items

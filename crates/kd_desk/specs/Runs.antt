@@ -9,20 +9,20 @@ use Rattle.kd_wire.specs.declared.item.WireItem.TheVariants as item
 use Rattle.kd_wire.specs.declared.command.Command.{Command}
 use Rattle.kd_wire.specs.declared.command.Command.TheVariants as cmd
 use Rattle.kd_wire.specs.Commands.{opcode_in}
-use Rattle.kd_wire.specs.Opcodes.{number_of}
-use Rattle.kd_desk.specs.declared.who.Who.{Who}
-use Rattle.kd_desk.specs.declared.who.WhoKind.{WhoKind}
-use Rattle.kd_desk.specs.declared.who.WhoKind.TheVariants as who
-use Rattle.kd_desk.specs.State.{Desk, conn_of, is_ordinary}
+use Rattle.kd_wire.specs.Opcodes.{opcode_number}
+use Rattle.kd_commands.specs.declared.who.Who.{Who}
+use Rattle.kd_commands.specs.declared.who.WhoKind.{WhoKind}
+use Rattle.kd_commands.specs.declared.who.WhoKind.TheVariants as who
+use Rattle.kd_commands.specs.State.{Desk, conn_of, is_ordinary}
 use Rattle.kd_registry.specs.Claims.{asked}
 use Rattle.kd_registry.specs.declared.claim.Verdict.{Verdict}
 use Rattle.kd_types.specs.declared.flags.NameFlags.{NameFlags}
 use Rattle.kd_types.specs.declared.flags.SendFlags.{SendFlags}
-use Rattle.kd_desk.specs.declared.conn.Conn.{Conn}
-use Rattle.kd_desk.specs.Items.{any}
-use Rattle.kd_desk.specs.Naming.{activator_in, acquire_refusals, name_acquire}
-use Rattle.kd_desk.specs.Plans.{Plan}
-use Rattle.kd_desk.specs.Step.{plan, from_conn}
+use Rattle.kd_commands.specs.declared.conn.Conn.{Conn}
+use Rattle.kd_image.specs.Images.{any}
+use Rattle.kd_commands.specs.Names.{activator_in, acquire_refusals, name_acquire}
+use Rattle.kd_commands.specs.Plans.{Plan}
+use Rattle.kd_commands.specs.Step.{plan, from_conn}
 
 -- a payload, or the name that a message is sent to
 abbrev pub is_plain : WireItem → Bool
@@ -30,38 +30,46 @@ is_plain (item.Payload bytes) = true
 is_plain (item.DstName n) = true
 is_plain _ = false
 
--- it goes to one receiver, expects no reply, and has nothing but payloads and the name that it is sent to
+-- it goes to one receiver, expects no reply, and has nothing but payloads and the name that it is
+-- sent to
 abbrev pub is_plain_send : SendFlags → ℕ → List WireItem → Bool
 is_plain_send flags dst is = not (has_bits flags.0 1) && not (dst == any) && all_of is_plain is
 
--- ordinary connections on the default endpoint, without metadata; messages to one receiver, of which no reply is expected; names
-unfoldable pub runs : Command → Bool
-runs (cmd.Hello flags size send_mask receive_mask is) = flags.0 == 0 && send_mask == 0 && receive_mask == 0 && is_empty is
-runs (cmd.Send flags priority dst source payload_type cookie last is) = is_plain_send flags dst is
-runs cmd.Byebye = true
-runs cmd.Close = true
-runs (cmd.NameAcquire flags n) = true
-runs (cmd.NameRelease n) = true
-runs (cmd.NameList flags) = true
-runs (cmd.Enter creds) = true
-runs _ = false
+-- ordinary connections on the default endpoint, without metadata; messages to one receiver, of
+-- which no reply is expected; names
+unfoldable pub is_planned : Command → Bool
+is_planned (cmd.Hello flags size send_mask receive_mask is) =
+    flags.0 == 0 && send_mask == 0 && receive_mask == 0 && is_empty is
+is_planned (cmd.Send flags priority dst source payload_type cookie last is) =
+    is_plain_send flags dst is
+is_planned cmd.Byebye = true
+is_planned cmd.Close = true
+is_planned (cmd.NameAcquire flags n) = true
+is_planned (cmd.NameRelease n) = true
+is_planned (cmd.NameList flags) = true
+is_planned (cmd.Enter creds) = true
+is_planned _ = false
 
 -- nobody keeps an endpoint so far
 abbrev pub is_keeper : WhoKind → Bool
 is_keeper (who.Keeper e) = true
 is_keeper _ = false
 
-abbrev pub has_activator : Result Verdict Refusal → Bool
-has_activator (Ok v) = is_some (activator_in v)
-has_activator (Err why) = false
+abbrev pub names_activator : Result Verdict Refusal → Bool
+names_activator (Ok v) = is_some (activator_in v)
+names_activator (Err why) = false
 
--- an acquire that isn't refused takes the name of an activator, with its messages; there are none so far
+-- an acquire that isn't refused takes the name of an activator, with its messages; there are none
+-- so far
 unfoldable pub takes_over : Desk → Conn → NameFlags → List ℕ → Bool
-takes_over d c flags n = is_none (first_that_holds (acquire_refusals d c n)) && has_activator (asked d.registry c.id n flags)
+takes_over d c flags n =
+    is_none (first_that_holds (acquire_refusals d c n))
+    && names_activator (asked d.registry c.id n flags)
 
 -- what an acquire is answered so far
 abbrev pub acquire_answered : Desk → Conn → NameFlags → List ℕ → Result Plan Refusal
-acquire_answered d c flags n = elim (takes_over d c flags n) [ true ↦ Err (Unsupported 8) | false ↦ name_acquire d c flags n ]
+acquire_answered d c flags n =
+    elim (takes_over d c flags n) [ true ↦ Err (Unsupported 8) | false ↦ name_acquire d c flags n ]
 
 abbrev pub is_handover : Desk → Conn → Command → Bool
 is_handover d c (cmd.NameAcquire flags n) = is_ordinary c.kind && takes_over d c flags n
@@ -69,17 +77,18 @@ is_handover d c _ = false
 
 -- what isn't run is refused before anything else
 abbrev pub unsupported : Command → Result Plan Refusal
-unsupported x = Err (Unsupported (number_of (opcode_in x)))
+unsupported x = Err (Unsupported (opcode_number (opcode_in x)))
 
 unfoldable pub conn_answered : Desk → Conn → Command → Result Plan Refusal
 conn_answered d c x = elim (is_handover d c x) [ true ↦ unsupported x | false ↦ from_conn d c x ]
 
 abbrev pub is_handover_by : Desk → WhoKind → Command → Bool
-is_handover_by d (who.Conn id seat) x = elim (conn_of d id) [ None ↦ false | Some c ↦ is_handover d c x ]
+is_handover_by d (who.Conn id seat) x =
+    elim (conn_of d id) [ None ↦ false | Some c ↦ is_handover d c x ]
 is_handover_by d _ x = false
 
 abbrev pub is_not_run : Desk → WhoKind → Command → Bool
-is_not_run d w x = not (runs x) || is_keeper w || is_handover_by d w x
+is_not_run d w x = not (is_planned x) || is_keeper w || is_handover_by d w x
 
 unfoldable pub answered : Desk → Who → Command → Result Plan Refusal
 answered d w x = elim (is_not_run d w.member x) [ true ↦ unsupported x | false ↦ plan d w x ]

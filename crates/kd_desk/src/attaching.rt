@@ -3,11 +3,11 @@
 ghost use Rattle.std.specs.Prelude.{◌≡◌, IfOk};
 ghost use Rattle.kd_model.specs.Words.{those};
 ghost use Rattle.kd_registry.specs.Changes.{names_of};
-ghost use Rattle.kd_desk.specs.Rights.{may_see_name};
-ghost use Rattle.kd_desk.specs.Send.{attached, is_attached, when};
+ghost use Rattle.kd_commands.specs.Rights.{may_see_name};
+ghost use Rattle.kd_commands.specs.Messages.{attached, is_attached, when};
 
-use crate::conn::Conn;
 use crate::desk::Desk;
+use kd_commands::Conn;
 use kd_image::Attached;
 use kd_types::{Text, TextList};
 use std::alloc::{AllocError, Global};
@@ -34,7 +34,8 @@ fn description_for(
     sender: &Conn,
     receiver: &Conn,
 ) -> Result<Option<Text>, AllocError>
-    ensures { IfOk result (λ text. text ≡ when (is_attached sender.now receiver.now 4) sender.now.description) }
+    ensures { IfOk result
+        (λ text. text ≡ when (is_attached sender.now receiver.now 4) sender.now.description) }
 {
     if !is_attached(sender, receiver, DESCRIPTION) {
         return Ok(None);
@@ -53,7 +54,10 @@ impl Desk {
         sender: &Conn,
         receiver: &Conn,
     ) -> Result<Vec<Text>, AllocError>
-        ensures { IfOk result (λ names. names.items ≡ those (may_see_name self.now receiver.now) (names_of self.now.registry sender.now.id)) }
+        ensures { IfOk result (λ names.
+            names.items
+            ≡ those (may_see_name self.now receiver.now)
+            (names_of self.now.registry sender.now.id)) }
     {
         let mut names = self.registry.names_of(alloc, sender.id)?;
         names.retain(|name| self.may_see_name(receiver, name));
@@ -61,7 +65,7 @@ impl Desk {
     }
 
     /// What the receiver is told of the sender, as far as both ends asked for it.
-    #[tactic(auto, unfolding(crate::specs::Send::attached))]
+    #[tactic(auto, unfolding(kd_commands::specs::Messages::attached))]
     pub(crate) fn attached(
         &self,
         alloc: Global,

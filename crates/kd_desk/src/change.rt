@@ -1,6 +1,6 @@
 //! What a command changes on the desk.
 
-use crate::conn::Conn;
+use kd_commands::Conn;
 use kd_registry::Verdict;
 use kd_types::{ConnId, Cookie, NameFlags, Seat, Text};
 

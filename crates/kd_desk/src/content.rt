@@ -1,15 +1,16 @@
 //! What is written into a slice that was offered.
 
-ghost use Rattle.std.specs.Prelude.{◌≡◌, ◌++◌, None};
-ghost use Rattle.kd_pool.specs.State as pool;
-ghost use Rattle.kd_desk.specs.Drafts.{nothing};
+ghost use Rattle.std.specs.Prelude.{◌≡◌, ◌++◌};
+ghost use Rattle.kd_acts.specs.State as pool;
+ghost use Rattle.kd_desk.specs.Drafts.{empty_content, plain_content};
 
 use bytes::Bytes;
 use kd_types::Blob;
 use std::alloc::Global;
 use std::marker::Model;
 
-/// The message for one receiver: its own prefix, the payloads that all receivers share, and its priority.
+/// The message for one receiver: its own prefix, the payloads that all receivers share, and its
+/// priority.
 #[derive(Debug, Drop)]
 pub struct Content {
     /// Header, metadata and items.
@@ -23,13 +24,13 @@ pub struct Content {
 impl Model for Content {
     ghost Value = { pool.Content };
 
-    ghost view = { λ c. record { image = c.prefix ++ c.payload; shared = None; priority = c.priority } };
+    ghost view = { λ c. plain_content (c.prefix ++ c.payload) c.priority };
 }
 
 impl Content {
     /// A content without bytes; it takes no memory.
     pub fn empty(alloc: Global) -> Content
-        ensures { result ≡ nothing }
+        ensures { result ≡ empty_content }
     {
         Content {
             prefix: Blob::empty(alloc),

@@ -1,11 +1,12 @@
 //! The desk of a bus.
 
-ghost use Rattle.std.specs.Prelude.{◌≡◌, ◌<◌, IfOk, length, nat_le};
+ghost use Rattle.std.specs.Prelude.{◌≡◌, ◌<◌, [], IfOk};
 ghost use Rattle.kd_model.specs.Words.{contains, some_of};
-ghost use Rattle.kd_desk.specs.State.{opening, has_seat, with_blocked};
+ghost use Rattle.kd_desk.specs.Room.{marked};
+ghost use Rattle.kd_commands.specs.State.{opening_desk, has_seat, with_blocked};
 
-use crate::conn::Conn;
 use kd_bloom::Param;
+use kd_commands::Conn;
 use kd_endpoint::Endpoints;
 use kd_match::Matches;
 use kd_policy::PolicyDb;
@@ -26,8 +27,8 @@ pub struct Desk {
     pub(crate) param: Param,
     /// By rising seat.
     pub(crate) conns: Vec<Conn>,
-    /// The seats of connections that others closed.
-    pub(crate) gone: Vec<Seat>,
+    /// A mark for each seat of a connection that others closed.
+    pub(crate) gone: [bool; SEATS],
     pub(crate) endpoints: Endpoints,
     pub(crate) policy: PolicyDb,
     pub(crate) registry: Registry,
@@ -39,7 +40,7 @@ pub struct Desk {
 }
 
 impl Model for Desk {
-    ghost use Rattle.kd_desk.specs.State as state;
+    ghost use Rattle.kd_commands.specs.State as state;
     ghost use Rattle.kd_desk.specs.Room.{HasRoom, desk_of};
 
     ghost Value = { state.Desk };
@@ -49,18 +50,25 @@ impl Model for Desk {
     ghost invariant = { HasRoom };
 }
 
+/// No seat waits for its caller.
+fn no_marks() -> [bool; SEATS]
+    ensures { marked result ≡ [] }
+{
+    [false; SEATS]
+}
+
 impl Desk {
-    /// The desk of a new bus, by the user who makes it and the parameter of its filters. All tables are made with room for as much as
-    /// 64 connections can have.
-    #[tactic(auto, unfolding(crate::specs::State::opening))]
+    /// The desk of a new bus, by the user who makes it and the parameter of its filters. All tables
+    /// are made with room for as much as 64 connections can have.
+    #[tactic(auto, unfolding(kd_commands::specs::State::opening_desk))]
     pub fn make(alloc: Global, creator: u32, param: Param) -> Result<Desk, AllocError>
-        ensures opening { IfOk result (λ d. d ≡ opening creator param.size param.hashes) }
+        ensures opening { IfOk result (λ d. d ≡ opening_desk creator param.size param.hashes) }
     {
         Ok(Desk {
             creator,
             param,
             conns: Vec::with_capacity(alloc, SEATS)?,
-            gone: Vec::with_capacity(alloc, SEATS)?,
+            gone: no_marks(),
             endpoints: Endpoints::make(alloc)?,
             policy: PolicyDb::make(alloc)?,
             registry: Registry::make(alloc)?,
@@ -83,21 +91,15 @@ impl Desk {
     pub fn blocked(&self, seat: Seat) -> bool
         ensures { result ≡ contains seat self.now.blocked }
     {
-        self.gone.iter().any(|gone| seat == *gone)
+        let place = usize::from(seat.0);
+        place < SEATS && self.gone[place]
     }
 
-    /// Whether [`Desk::block`] has no room for one more.
-    pub fn is_full(&self) -> bool
-        ensures { result ≡ nat_le 64 (length self.now.blocked) }
-    {
-        SEATS <= self.gone.len()
-    }
-
-    /// Blocks a seat in a new desk, whose caller has yet to learn that its connection is gone.
+    /// Blocks a seat, whose caller has yet to learn that its connection is gone.
     pub fn block(&mut self, seat: Seat)
-        requires room { length self.old.blocked < 64 }
+        requires seat { seat < 64 }
         ensures { self.new ≡ with_blocked seat self.old }
     {
-        self.gone.push(seat).unwrap();
+        self.gone[usize::from(seat.0)] = true;
     }
 }

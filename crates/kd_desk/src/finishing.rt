@@ -4,16 +4,16 @@ ghost use Rattle.std.specs.Prelude.{◌≡◌, ◌==◌, ◌≤◌, ◌<◌, ◌
 ghost use Rattle.kd_model.specs.Words.{but_those, put_in_order};
 ghost use Rattle.kd_registry.specs.Claims.{asked, release_answer};
 ghost use Rattle.kd_desk.specs.Drafts.{Fits, applied};
-ghost use Rattle.kd_desk.specs.Hello.{sits_before};
-ghost use Rattle.kd_desk.specs.Leaving.{unblocked, without_conns};
-ghost use Rattle.kd_desk.specs.Naming.{with_claim, without_claim};
+ghost use Rattle.kd_commands.specs.State.{sits_before, unblocked};
+ghost use Rattle.kd_commands.specs.Leaving.{without_conns};
+ghost use Rattle.kd_commands.specs.Names.{with_claim, without_claim};
 ghost use Rattle.kd_desk.specs.Outs.{ended_on, is_needed, stops};
 
 use crate::change::Change;
-use crate::conn::Conn;
-use crate::desk::Desk;
+use crate::desk::{Desk, SEATS};
 use crate::part::{Out, Part};
 use crate::plan::Plan;
+use kd_commands::Conn;
 use kd_policy::Owner;
 use kd_registry::Verdict;
 use kd_types::{ConnId, NameFlags, Refusal, Seat, Text};
@@ -69,17 +69,10 @@ fn remove_conn(conns: &mut Vec<Conn>, id: ConnId)
     conns.retain(|conn| !(conn.id == id));
 }
 
-/// Takes a seat out.
-fn remove_seat(seats: &mut Vec<Seat>, seat: Seat)
-    ensures others { seats.new.items ≡ but_those (λ s. s == seat) seats.old.items }
-    ensures room { vec_capacity seats.old ≤ vec_capacity seats.new }
-{
-    seats.retain(|other| !(*other == seat));
-}
-
 impl Desk {
-    /// Ends a plan that was made for the desk as it is, by what the pools answered to its visits. Where the first visit had to be done
-    /// and was refused the desk stays as it is; else the plan's change is made. It takes no memory.
+    /// Ends a plan that was made for the desk as it is, by what the pools answered to its visits.
+    /// Where the first visit had to be done and was refused the desk stays as it is; else the
+    /// plan's change is made. It takes no memory.
     #[tactic(auto, using(crate::proofs::Ending::ends_where_it_stops), unfolding(crate::specs::Outs::ended_on, crate::specs::Drafts::drafted))]
     pub fn finish(&mut self, plan: Plan, outs: &[Out]) -> Reply
         requires fits { Fits self.old plan.change }
@@ -145,11 +138,14 @@ impl Desk {
     fn unblock(&mut self, seat: Seat)
         ensures { self.new ≡ unblocked seat self.old }
     {
-        remove_seat(&mut self.gone, seat);
+        let place = usize::from(seat.0);
+        if place < SEATS {
+            self.gone[place] = false;
+        }
     }
 
     /// A connection claims a name, and takes over the requests that an activator was to answer.
-    #[tactic(auto, unfolding(crate::specs::Naming::with_claim))]
+    #[tactic(auto, unfolding(kd_commands::specs::Names::with_claim))]
     fn acquire(&mut self, id: ConnId, flags: NameFlags, name: Text, verdict: Verdict)
         requires answer { asked self.old.registry id name flags ≡ Ok verdict }
         requires room { length self.old.registry < 4160 }
@@ -166,7 +162,7 @@ impl Desk {
     }
 
     /// A connection gives up its claim on a name.
-    #[tactic(auto, unfolding(crate::specs::Naming::without_claim))]
+    #[tactic(auto, unfolding(kd_commands::specs::Names::without_claim))]
     fn release(&mut self, id: ConnId, name: &Text)
         requires answer { (owner : ℕ) × (release_answer self.old.registry id name.now ≡ Ok owner) }
         ensures { self.new ≡ without_claim self.old id name.now }

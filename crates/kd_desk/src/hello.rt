@@ -2,18 +2,16 @@
 
 ghost use Rattle.std.specs.Prelude.{◌≡◌, ◌<◌, ◌^◌, ◌%◌, ℕ, [], not, ◌&&◌};
 ghost use Rattle.kd_desk.specs.Arriving.{asked_plainly, plain_conn};
-ghost use Rattle.kd_desk.specs.Drafts.{Answers};
-ghost use Rattle.kd_desk.specs.Hello.{free_seat, hello, is_free};
+ghost use Rattle.kd_desk.specs.Drafts.{PlanResult};
+ghost use Rattle.kd_commands.specs.Hello.{free_seat, hello, is_free};
 
 use crate::change::Change;
-use crate::conn::Conn;
 use crate::desk::{Desk, SEATS};
 use crate::notices::News;
 use crate::part::Part;
 use crate::plan::Plan;
-use crate::who::WhoKind;
-use kd_match::Change as Owning;
-use kd_types::{ConnId, Creds, Kind, Refusal, Seat};
+use kd_commands::{Conn, WhoKind};
+use kd_types::{ConnId, Creds, Kind, OwnerChange, Refusal, Seat};
 use kd_wire::Reply;
 use std::alloc::Global;
 
@@ -37,9 +35,11 @@ impl Desk {
         None
     }
 
-    /// A caller becomes an ordinary connection on the default endpoint, without metadata, with a pool of so many bytes: on the lowest free
-    /// seat, and the others are told. It is refused where no seat is free. Where the desk had no room for one more connection, which can't
-    /// come about, memory is wanting. What a notice may borrow is named, though this one borrows none of it: the borrow checker asks for it.
+    /// A caller becomes an ordinary connection on the default endpoint, without metadata, with a
+    /// pool of so many bytes: on the lowest free seat, and the others are told. It is refused where
+    /// no seat is free. Where the desk had no room for one more connection, which can't come about,
+    /// memory is wanting. What a notice may borrow is named, though this one borrows none of it:
+    /// the borrow checker asks for it.
     pub(crate) fn plan_hello(
         &self,
         alloc: Global,
@@ -48,9 +48,9 @@ impl Desk {
     ) -> Result<Plan, Refusal>
         requires eights { size % 8 ≡ 0 }
         requires ids { self.now.next_id < 2 ^ 63 }
-        ensures { Answers self.now (hello self.now creds.now (asked_plainly size)) result }
+        ensures { PlanResult self.now (hello self.now creds.now (asked_plainly size)) result }
     {
-        let _owning: Option<&Owning> = None;
+        let _change: Option<&OwnerChange> = None;
         let Some(seat) = self.free_seat() else {
             return Err(Refusal::TooMany { limit: 64 });
         };

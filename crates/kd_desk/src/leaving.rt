@@ -5,39 +5,37 @@ ghost use Rattle.kd_model.specs.Words.{those};
 ghost use Rattle.kd_registry.specs.Changes.{changes_without};
 ghost use Rattle.kd_replies.specs.declared.request.Request.{Request};
 ghost use Rattle.kd_replies.specs.Requests.{is_dead_without};
-ghost use Rattle.kd_desk.specs.Audience.{new_owner, reply_dead};
-ghost use Rattle.kd_desk.specs.Drafts.{Answers, parts_with};
-ghost use Rattle.kd_desk.specs.Leaving.{byebye, close_conn, leave_one, leaving_notices, without_conns};
-ghost use Rattle.kd_desk.specs.Plans.{notices};
-ghost use Rattle.kd_desk.specs.State.{conn_of};
+ghost use Rattle.kd_commands.specs.Audience.{new_owner, reply_dead};
+ghost use Rattle.kd_desk.specs.Drafts.{PlanResult, parts_with};
+ghost use Rattle.kd_commands.specs.Leaving.{byebye, close_conn, leave_one, leaving_notices, without_conns};
+ghost use Rattle.kd_commands.specs.Plans.{notices};
+ghost use Rattle.kd_commands.specs.State.{conn_of};
 
 use crate::change::Change;
-use crate::conn::Conn;
 use crate::desk::Desk;
 use crate::notices::News;
 use crate::part::Part;
 use crate::plan::Plan;
-use crate::who::WhoKind;
-use kd_match::Change as Owning;
-use kd_types::{ConnId, Kind, Refusal};
+use kd_commands::{Conn, WhoKind};
+use kd_types::{ConnId, Kind, OwnerChange, Refusal};
 use kd_wire::Reply;
 use std::alloc::{AllocError, Global};
 
 impl Desk {
     /// The connection says that it goes; it stays where messages wait for it.
-    #[tactic(auto, unfolding(crate::specs::Leaving::byebye))]
+    #[tactic(auto, unfolding(kd_commands::specs::Leaving::byebye))]
     pub(crate) fn plan_byebye(&self, alloc: Global, conn: &Conn) -> Result<Plan, Refusal>
         requires live { conn_of self.now conn.now.id ≡ Some conn.now }
-        ensures { Answers self.now (Ok (byebye self.now conn.now)) result }
+        ensures { PlanResult self.now (Ok (byebye self.now conn.now)) result }
     {
         self.plan_leave(alloc, conn, false, Reply::Byebye)
     }
 
     /// The connection goes, whatever waits.
-    #[tactic(auto, unfolding(crate::specs::Leaving::close_conn))]
+    #[tactic(auto, unfolding(kd_commands::specs::Leaving::close_conn))]
     pub(crate) fn plan_close(&self, alloc: Global, conn: &Conn) -> Result<Plan, Refusal>
         requires live { conn_of self.now conn.now.id ≡ Some conn.now }
-        ensures { Answers self.now (Ok (close_conn self.now conn.now)) result }
+        ensures { PlanResult self.now (Ok (close_conn self.now conn.now)) result }
     {
         self.plan_leave(alloc, conn, true, Reply::Close)
     }
@@ -50,7 +48,7 @@ impl Desk {
         reply: Reply,
     ) -> Result<Plan, Refusal>
         requires live { conn_of self.now conn.now.id ≡ Some conn.now }
-        ensures { Answers self.now (Ok (leave_one self.now reply force conn.now)) result }
+        ensures { PlanResult self.now (Ok (leave_one self.now reply force conn.now)) result }
     {
         let mut parts = Vec::with_capacity(alloc, self.conns.len())?;
         parts.push(Part::Close {
@@ -67,8 +65,8 @@ impl Desk {
         })
     }
 
-    /// The posts of what the others are told, by the desk without the connection. What a notice may borrow is named, though the last one
-    /// borrows none of it: the borrow checker asks for it.
+    /// The posts of what the others are told, by the desk without the connection. What a notice may
+    /// borrow is named, though the last one borrows none of it: the borrow checker asks for it.
     fn tell_leave(
         &self,
         alloc: Global,
@@ -78,7 +76,7 @@ impl Desk {
         ensures { OnOk result (parts_with [] parts.new.items ≡ parts_with [] parts.old.items
             ++ notices (without_conns self.now (conn.now.id ∷ [])) (leaving_notices self.now (conn.now ∷ []))) }
     {
-        let _owning: Option<&Owning> = None;
+        let _change: Option<&OwnerChange> = None;
         self.tell_owners(alloc, parts, conn.id)?;
         self.tell_dead(alloc, parts, conn.id)?;
         match conn.kind {
@@ -101,12 +99,7 @@ impl Desk {
     {
         let changes = self.registry.changes_without(alloc, &[leaver])?;
         'changes: for change in changes {
-            let owning = Owning {
-                name: change.name,
-                old: change.old,
-                new: change.new,
-            };
-            self.tell(alloc, parts, &News::Owner(&owning), Some(leaver))?;
+            self.tell(alloc, parts, &News::Owner(&change), Some(leaver))?;
         }
         Ok(())
     }
@@ -121,7 +114,7 @@ impl Desk {
         ensures { OnOk result (parts_with [] parts.new.items ≡ parts_with [] parts.old.items
             ++ notices (without_conns self.now (leaver ∷ [])) (map (λ (q : Request). reply_dead q.asker q.cookie) (those (is_dead_without (leaver ∷ [])) self.now.requests))) }
     {
-        let _owning: Option<&Owning> = None;
+        let _change: Option<&OwnerChange> = None;
         let dead = self.replies.dead_without(alloc, &[leaver])?;
         'dead: for request in &dead {
             let news = News::Dead {

@@ -2,22 +2,21 @@
 
 ghost use Rattle.std.specs.Prelude.{◌≡◌, [], IfOk, Ok, is_some};
 ghost use Rattle.std.specs.List.{AllByRecursion};
-ghost use Rattle.kd_registry.specs.Claims.{owner_id, release_answer};
-ghost use Rattle.kd_desk.specs.Drafts.{Answers, IsVisitable, parts_with};
-ghost use Rattle.kd_desk.specs.Naming.{activator_in, is_queued, name_release};
-ghost use Rattle.kd_desk.specs.Owners.{acquire_judged, hidden, moved, owner_by, release_judged};
-ghost use Rattle.kd_desk.specs.Plans.{notices};
+ghost use Rattle.kd_registry.specs.Claims.{owner_id};
+ghost use Rattle.kd_desk.specs.Drafts.{PlanResult, IsVisitable, StandByOffers, parts_with};
+ghost use Rattle.kd_commands.specs.Names.{activator_in, is_queued, name_release};
+ghost use Rattle.kd_desk.specs.Owners.{IsOwnerThen, acquire_judged, hidden, moved, owner_by, release_judged};
+ghost use Rattle.kd_commands.specs.Plans.{notices};
 ghost use Rattle.kd_desk.specs.Runs.{acquire_answered};
 
 use crate::change::Change;
-use crate::conn::Conn;
 use crate::desk::Desk;
 use crate::part::Part;
 use crate::plan::Plan;
-use crate::who::WhoKind;
+use kd_commands::{Conn, WhoKind};
 use kd_name::is_name;
 use kd_registry::Verdict;
-use kd_types::{ConnId, NameFlags, Refusal, Text};
+use kd_types::{ConnId, NameFlags, OwnerChange, Refusal, Text};
 use kd_wire::Reply;
 use std::alloc::{AllocError, Global};
 
@@ -70,6 +69,7 @@ impl Desk {
     }
 
     /// The posts of the notice of a name's new owner, where it isn't the old one.
+    #[tactic(auto, using(crate::proofs::Visits::nothing_offered))]
     fn moved_posts(
         &self,
         alloc: Global,
@@ -77,14 +77,16 @@ impl Desk {
         old: ConnId,
         new: ConnId,
     ) -> Result<Vec<Part>, AllocError>
-        ensures posts { IfOk result (λ parts. parts_with [] parts.items ≡ notices self.now (moved old new name.now)) }
+        ensures posts { IfOk result
+            (λ parts. parts_with [] parts.items ≡ notices self.now (moved old new name.now)) }
         ensures visitable { IfOk result (λ parts. AllByRecursion IsVisitable parts.items) }
+        ensures contents { IfOk result (λ parts. StandByOffers [] parts.items) }
     {
         if old == new {
             return Ok(Vec::new(alloc));
         }
         let name = Text::of(alloc, name.bytes())?;
-        self.owner_posts(alloc, &kd_match::Change { name, old, new })
+        self.owner_posts(alloc, &OwnerChange { name, old, new })
     }
 
     /// What the registry answers a connection that asks for a name, where it may own it.
@@ -109,7 +111,7 @@ impl Desk {
     /// Who owns the name when the connection has released it.
     fn judge_release(&self, conn: &Conn, name: &Text) -> Result<ConnId, Refusal>
         ensures judged { result ≡ release_judged self.now conn.now name.now }
-        ensures answer { IfOk result (λ owner. release_answer self.now.registry conn.now.id name.now ≡ Ok owner) }
+        ensures answer { IfOk result (IsOwnerThen self.now conn.now name.now) }
     {
         match self.registry.may_release(conn.id, name.bytes()) {
             Ok(owner) => Ok(owner),
@@ -117,8 +119,9 @@ impl Desk {
         }
     }
 
-    /// What it comes to that the connection asks for the name: it owns it or waits in the queue, and if it is the new owner, all are told
-    /// that may see it. A name that an activator owns isn't taken over so far.
+    /// What it comes to that the connection asks for the name: it owns it or waits in the queue,
+    /// and if it is the new owner, all are told that may see it. A name that an activator owns
+    /// isn't taken over so far.
     pub(crate) fn plan_acquire(
         &self,
         alloc: Global,
@@ -126,7 +129,7 @@ impl Desk {
         flags: NameFlags,
         name: Text,
     ) -> Result<Plan, Refusal>
-        ensures { Answers self.now (acquire_answered self.now conn.now flags name) result }
+        ensures { PlanResult self.now (acquire_answered self.now conn.now flags name) result }
     {
         let verdict = self.judge_acquire(conn, flags, &name)?;
         if has_activator(verdict) {
@@ -157,15 +160,15 @@ impl Desk {
         })
     }
 
-    /// What it comes to that the connection gives up its claim on the name: if it was the owner, all are told of the next one that may see
-    /// the name.
+    /// What it comes to that the connection gives up its claim on the name: if it was the owner,
+    /// all are told of the next one that may see the name.
     pub(crate) fn plan_release(
         &self,
         alloc: Global,
         conn: &Conn,
         name: Text,
     ) -> Result<Plan, Refusal>
-        ensures { Answers self.now (name_release self.now conn.now name) result }
+        ensures { PlanResult self.now (name_release self.now conn.now name) result }
     {
         let new = self.judge_release(conn, &name)?;
         let old = self.owner_id(&name);

@@ -3,18 +3,18 @@
 ghost use Rattle.std.specs.Prelude.{◌≡◌, ◌==◌, ◌&&◌, ◌++◌, [], IfOk, OnOk};
 ghost use Rattle.std.specs.List.{AllByRecursion};
 ghost use Rattle.kd_image.specs.Images.{notice_image};
-ghost use Rattle.kd_desk.specs.Audience.{asks_for, is_asker, is_shown, is_told, new_owner, owner_notice, sees_ids, told_of};
-ghost use Rattle.kd_desk.specs.Drafts.{IsVisitable, parts_with};
-ghost use Rattle.kd_desk.specs.News.{change_in, is_leaver, still_told, subject_of, telling_of, without_leaver};
-ghost use Rattle.kd_desk.specs.Plans.{posts};
+ghost use Rattle.kd_commands.specs.Audience.{asks_for, is_asker, is_shown, is_told, new_owner, owner_notice, sees_ids, change_told};
+ghost use Rattle.kd_desk.specs.Drafts.{IsVisitable, StandByOffers, parts_with};
+ghost use Rattle.kd_desk.specs.News.{is_leaver, still_told, news_subject, telling_of, without_leaver};
+ghost use Rattle.kd_commands.specs.Plans.{posts};
 
-use crate::conn::Conn;
 use crate::desk::Desk;
 use crate::part::Part;
 use kd_bloom::Bits;
+use kd_commands::Conn;
 use kd_image::{Notice, build_notice};
-use kd_match::{Change, Subject};
-use kd_types::{Blob, ConnId, Cookie, Kind, Text};
+use kd_match::Subject;
+use kd_types::{Blob, ConnId, Cookie, Kind, OwnerChange, Text};
 use std::alloc::{AllocError, Global};
 
 /// What the bus tells by itself.
@@ -25,14 +25,14 @@ pub(crate) enum News<'a> {
     /// A connection left.
     Left(ConnId),
     /// A name has another owner.
-    Owner(&'a Change),
+    Owner(&'a OwnerChange),
     /// Who was to reply to the request is gone.
     Dead { asker: ConnId, cookie: Cookie },
 }
 
 /// The notice of a name's new owner.
-fn notice_of(alloc: Global, change: &Change) -> Result<Notice, AllocError>
-    ensures { IfOk result (λ n. n ≡ owner_notice (change_in change.now)) }
+fn notice_of(alloc: Global, change: &OwnerChange) -> Result<Notice, AllocError>
+    ensures { IfOk result (λ n. n ≡ owner_notice change.now) }
 {
     let name = Text::of(alloc, change.name.bytes())?;
     let (old, new) = (change.old, change.new);
@@ -47,7 +47,8 @@ fn notice_of(alloc: Global, change: &Change) -> Result<Notice, AllocError>
 
 /// The image of a notice.
 fn image_of(alloc: Global, news: &News) -> Result<Vec<u8>, AllocError>
-    ensures { IfOk result (λ v. v.items ≡ notice_image (telling_of news.now).notice (telling_of news.now).dst) }
+    ensures { IfOk result
+        (λ v. v.items ≡ notice_image (telling_of news.now).notice (telling_of news.now).dst) }
 {
     match news {
         News::Came(id) => build_notice(alloc, &Notice::IdAdd { id: *id }, 0),
@@ -68,7 +69,7 @@ fn sees_ids(conn: &Conn, id: ConnId) -> bool
 
 /// Whether the connection asked what the notice is about.
 fn is_asker(conn: &Conn, news: &News) -> bool
-    ensures { result ≡ is_asker (subject_of news.now) conn.now }
+    ensures { result ≡ is_asker (news_subject news.now) conn.now }
 {
     match news {
         News::Dead { asker, .. } => conn.id == *asker,
@@ -87,10 +88,11 @@ fn is_leaver(conn: &Conn, leaver: Option<ConnId>) -> bool
 }
 
 impl Desk {
-    /// Whether a rule of the connection admits the notice of a name's new owner. What a subject of a rule may borrow is named, though
-    /// a notice borrows none of it: the borrow checker asks for it.
-    fn asks_for(&self, conn: &Conn, change: &Change) -> bool
-        ensures { result ≡ asks_for self.now conn.now (told_of (change_in change.now)) }
+    /// Whether a rule of the connection admits the notice of a name's new owner. What a subject of
+    /// a rule may borrow is named, though a notice borrows none of it: the borrow checker asks for
+    /// it.
+    fn asks_for(&self, conn: &Conn, change: &OwnerChange) -> bool
+        ensures { result ≡ asks_for self.now conn.now (change_told change.now) }
     {
         let _filter: Option<&Bits> = None;
         let subject = if change.old.0 == 0 {
@@ -104,9 +106,9 @@ impl Desk {
     }
 
     /// Whether an ordinary connection is shown the notice.
-    #[tactic(auto, unfolding(crate::specs::Audience::is_shown))]
+    #[tactic(auto, unfolding(kd_commands::specs::Audience::is_shown))]
     fn is_shown(&self, conn: &Conn, news: &News) -> bool
-        ensures { result ≡ is_shown self.now (subject_of news.now) conn.now }
+        ensures { result ≡ is_shown self.now (news_subject news.now) conn.now }
     {
         let _filter: Option<&Bits> = None;
         match news {
@@ -122,9 +124,10 @@ impl Desk {
         }
     }
 
-    /// Whether the connection is told: a monitor is, whoever asked what it is about, and an ordinary connection that is shown it.
+    /// Whether the connection is told: a monitor is, whoever asked what it is about, and an
+    /// ordinary connection that is shown it.
     fn is_told(&self, conn: &Conn, news: &News) -> bool
-        ensures { result ≡ is_told self.now (subject_of news.now) conn.now }
+        ensures { result ≡ is_told self.now (news_subject news.now) conn.now }
     {
         match conn.kind {
             Kind::Monitor => true,
@@ -135,12 +138,13 @@ impl Desk {
 
     /// Whether the connection stays, and is told.
     fn is_still_told(&self, conn: &Conn, news: &News, leaver: Option<ConnId>) -> bool
-        ensures { result ≡ still_told leaver self.now (subject_of news.now) conn.now }
+        ensures { result ≡ still_told leaver self.now (news_subject news.now) conn.now }
     {
         !is_leaver(conn, leaver) && self.is_told(conn, news)
     }
 
-    /// The posts of a notice by the desk without the connection that leaves, if one does; by rising seat.
+    /// The posts of a notice by the desk without the connection that leaves, if one does; by rising
+    /// seat.
     #[tactic(auto, using(crate::proofs::Telling::posts_without))]
     pub(crate) fn posts(
         &self,
@@ -148,7 +152,9 @@ impl Desk {
         news: &News,
         leaver: Option<ConnId>,
     ) -> Result<Vec<Part>, AllocError>
-        ensures { IfOk result (λ parts. parts_with [] parts.items ≡ posts (without_leaver leaver self.now) (subject_of news.now)) }
+        ensures { IfOk result (λ parts.
+            parts_with [] parts.items
+            ≡ posts (without_leaver leaver self.now) (news_subject news.now)) }
     {
         let image = image_of(alloc, news)?;
         let mut parts = Vec::new(alloc);
@@ -168,10 +174,13 @@ impl Desk {
     pub(crate) fn owner_posts(
         &self,
         alloc: Global,
-        change: &Change,
+        change: &OwnerChange,
     ) -> Result<Vec<Part>, AllocError>
-        ensures posts { IfOk result (λ parts. parts_with [] parts.items ≡ posts self.now (new_owner (change_in change.now))) }
+        ensures posts { IfOk result (λ parts.
+            parts_with [] parts.items
+            ≡ posts self.now (new_owner change.now)) }
         ensures visitable { IfOk result (λ parts. AllByRecursion IsVisitable parts.items) }
+        ensures contents { IfOk result (λ parts. StandByOffers [] parts.items) }
     {
         let _ = &self.conns;
         let parts = self.posts(alloc, &News::Owner(change), None)?;
@@ -186,7 +195,9 @@ impl Desk {
         news: &News,
         leaver: Option<ConnId>,
     ) -> Result<(), AllocError>
-        ensures { OnOk result (parts_with [] parts.new.items ≡ parts_with [] parts.old.items ++ posts (without_leaver leaver self.now) (subject_of news.now)) }
+        ensures { OnOk result (parts_with [] parts.new.items
+            ≡ parts_with [] parts.old.items
+            ++ posts (without_leaver leaver self.now) (news_subject news.now)) }
     {
         let mut posts = self.posts(alloc, news, leaver)?;
         parts.append(&mut posts)

@@ -4,18 +4,17 @@ ghost use Rattle.std.specs.Prelude.{◌≡◌, ◌<◌, ◌^◌, ◌++◌, [], �
 ghost use Rattle.std.specs.List.{AllByRecursion};
 ghost use Rattle.kd_wire.specs.declared.reply.Reply.TheVariants as reply;
 ghost use Rattle.kd_image.specs.Images.{front, image_length, laid, padded};
-ghost use Rattle.kd_desk.specs.Drafts.{IsVisitable, parts_with, part_with};
-ghost use Rattle.kd_desk.specs.Sending.{offered};
-ghost use Rattle.kd_desk.specs.State.{monitors};
+ghost use Rattle.kd_desk.specs.Drafts.{IsVisitable, StandByOffers, is_offer, parts_with, part_with};
+ghost use Rattle.kd_desk.specs.Sending.{plain_offer};
+ghost use Rattle.kd_commands.specs.State.{monitors};
 
 use crate::change::Change;
-use crate::conn::Conn;
 use crate::content::Content;
 use crate::desk::Desk;
 use crate::part::Part;
 use crate::plan::Plan;
-use crate::who::WhoKind;
 use bytes::Bytes;
+use kd_commands::{Conn, WhoKind};
 use kd_image::{Attached, Message, build, image_len, is_short};
 use kd_item::{padding, put_bytes, put_zeros};
 use kd_types::{Blob, Kind, Refusal};
@@ -31,19 +30,19 @@ pub(crate) struct Offers {
 }
 
 impl Model for Offers {
-    ghost use Rattle.std.specs.Prelude.{◌≡◌, List, vec_len};
-    ghost use Rattle.std.specs.List.{AllByRecursion};
-    ghost use Rattle.kd_desk.specs.Drafts.{IsVisitable, parts_with};
-    ghost use Rattle.kd_desk.specs.Send as send;
+    ghost use Rattle.std.specs.Prelude.{List};
+    ghost use Rattle.kd_desk.specs.Drafts.{AreOffers, parts_with};
+    ghost use Rattle.kd_commands.specs.Plans as plans;
 
-    ghost Value = { List send.Part };
+    ghost Value = { List plans.Part };
 
     ghost view = { λ o. parts_with o.contents.items o.parts.items };
 
-    ghost invariant = { λ o. (vec_len o.contents ≡ vec_len o.parts) × AllByRecursion IsVisitable o.parts.items };
+    ghost invariant = { λ o. AreOffers o.contents.items o.parts.items };
 }
 
 impl Offers {
+    #[tactic(auto, using(crate::proofs::Visits::nothing_offered))]
     fn new(alloc: Global) -> Offers
         ensures { result ≡ [] }
     {
@@ -54,7 +53,8 @@ impl Offers {
     }
 
     fn push(&mut self, part: Part, content: Content) -> Result<(), AllocError>
-        requires { IsVisitable part }
+        requires visitable { IsVisitable part }
+        requires offer { is_offer part ≡ true }
         ensures { OnOk result (self.new ≡ self.old ++ part_with (Some content) part ∷ []) }
     {
         self.parts.reserve(1)?;
@@ -67,6 +67,7 @@ impl Offers {
     pub(crate) fn into_plan(self, change: Change, after: WhoKind) -> Plan
         ensures parts { parts_with result.contents result.parts ≡ self }
         ensures visitable { AllByRecursion IsVisitable result.parts }
+        ensures contents { StandByOffers result.contents result.parts }
         ensures reply { result.reply ≡ reply.Send }
         ensures change { result.change ≡ change }
         ensures after { result.after ≡ after }
@@ -81,7 +82,8 @@ impl Offers {
     }
 }
 
-/// A message on its way: with the payloads that all its receivers share, and the id that its images name as destination.
+/// A message on its way: with the payloads that all its receivers share, and the id that its images
+/// name as destination.
 #[derive(Drop)]
 struct Letter {
     message: Message,
@@ -111,7 +113,8 @@ fn lay(alloc: Global, payloads: &[Blob]) -> Result<Vec<u8>, AllocError>
     Ok(out)
 }
 
-/// The content of the letter with this attached: a prefix of its own, and the payloads that are shared.
+/// The content of the letter with this attached: a prefix of its own, and the payloads that are
+/// shared.
 fn content_for(
     alloc: Global,
     sender: &Conn,
@@ -119,7 +122,15 @@ fn content_for(
     attached: &Attached,
 ) -> Result<Content, AllocError>
     requires { image_length letter.now.message attached.now < 2 ^ 32 }
-    ensures { IfOk result (λ c. c ≡ record { image = front letter.now.message sender.now.id letter.now.dst attached.now ++ letter.now.payload; shared = None; priority = letter.now.message.priority }) }
+    ensures { IfOk result (λ c.
+        c
+        ≡ record {
+          image =
+              front letter.now.message sender.now.id letter.now.dst attached.now
+              ++ letter.now.payload;
+          shared = None;
+          priority = letter.now.message.priority;
+        }) }
 {
     let prefix = build(alloc, &letter.message, sender.id, letter.dst, attached)?;
     Ok(Content {
@@ -131,7 +142,7 @@ fn content_for(
 
 impl Desk {
     /// One offer more, of the letter to this receiver.
-    #[tactic(auto, unfolding(crate::specs::Sending::offered))]
+    #[tactic(auto, unfolding(crate::specs::Sending::plain_offer))]
     fn offer(
         &self,
         alloc: Global,
@@ -143,7 +154,11 @@ impl Desk {
     ) -> Result<(), Refusal>
         requires laid { letter.now.payload ≡ laid letter.now.message.payloads }
         requires seat { receiver.now.seat < 64 }
-        ensures ok { OnOk result (offers.new ≡ offers.old ++ offered self.now sender.now letter.now.message letter.now.dst must receiver.now ∷ []) }
+        ensures ok { OnOk result (offers.new
+            ≡ offers.old
+            ++ plain_offer self.now sender.now letter.now.message letter.now.dst must
+            receiver.now
+            ∷ []) }
         ensures err { IfErr result (λ e. e ≡ Refusal.OutOfMemory) }
     {
         let attached = self.attached(alloc, sender, receiver)?;
@@ -172,7 +187,11 @@ impl Desk {
         receiver: &Conn,
     ) -> Result<Offers, Refusal>
         requires seat { receiver.now.seat < 64 }
-        ensures ok { IfOk result (λ o. o ≡ offered self.now sender.now message receiver.now.id true receiver.now ∷ map (offered self.now sender.now message receiver.now.id false) (monitors self.now)) }
+        ensures ok { IfOk result (λ o.
+            o
+            ≡ plain_offer self.now sender.now message receiver.now.id true receiver.now
+            ∷ map (plain_offer self.now sender.now message receiver.now.id false)
+            (monitors self.now)) }
         ensures err { IfErr result (λ e. e ≡ Refusal.OutOfMemory) }
     {
         let payload = Bytes::from_vec(lay(alloc, message.payloads.blobs())?)?;

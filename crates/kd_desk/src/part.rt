@@ -18,8 +18,8 @@ pub enum Part {
         seat: Seat,
         force: bool,
     },
-    /// A slice of `len` bytes is reserved for a message of the user and the connection. Where it `must` be placed, a refusal ends the
-    /// command; else it is counted as dropped.
+    /// A slice of `len` bytes is reserved for a message of the user and the connection. Where it
+    /// `must` be placed, a refusal ends the command; else it is counted as dropped.
     Offer {
         seat: Seat,
         user: u32,
@@ -32,7 +32,8 @@ pub enum Part {
         seat: Seat,
         image: Blob,
     },
-    /// All waiting messages of an activator are taken out of its pool, which has this size in bytes.
+    /// All waiting messages of an activator are taken out of its pool, which has this size in
+    /// bytes.
     Drain {
         seat: Seat,
         size: u32,

@@ -1,21 +1,21 @@
 //! What a command comes to, before it is done.
 
 ghost use Rattle.std.specs.Prelude.{◌≡◌, List};
-ghost use Rattle.kd_desk.specs.Drafts.{Draft, content_at, parts_with, without_content};
-ghost use Rattle.kd_desk.specs.Outs.{answers_of};
-ghost use Rattle.kd_desk.specs.Step.{first_ends};
+ghost use Rattle.kd_desk.specs.Drafts.{Draft, content_at, without_content};
+ghost use Rattle.kd_desk.specs.Outs.{why_ended};
 ghost use Rattle.kd_desk.specs.declared.part.Part.{Part};
 
 use crate::change::Change;
 use crate::content::Content;
 use crate::finishing::stops;
 use crate::part::{Out, Part};
-use crate::who::WhoKind;
+use kd_commands::WhoKind;
 use kd_types::Refusal;
 use kd_wire::Reply;
 use std::marker::Model;
 
-/// A command that the desk doesn't refuse: the visits that it asks for, and all that its end needs. It holds all memory of the command.
+/// A command that the desk doesn't refuse: the visits that it asks for, and all that its end needs.
+/// It holds all memory of the command.
 #[derive(Debug, Drop)]
 pub struct Plan {
     pub(crate) parts: Vec<Part>,
@@ -29,7 +29,14 @@ pub struct Plan {
 impl Model for Plan {
     ghost Value = { Draft };
 
-    ghost view = { λ p. record { parts = p.parts.items; contents = p.contents.items; reply = p.reply; change = p.change; after = p.after } };
+    ghost view = { λ p.
+        record {
+          parts = p.parts.items;
+          contents = p.contents.items;
+          reply = p.reply;
+          change = p.change;
+          after = p.after;
+        } };
 }
 
 impl Plan {
@@ -50,12 +57,13 @@ impl Plan {
     /// The refusal that ended it at its first visit, if that had to be done.
     #[tactic(auto, using(crate::proofs::Ending::ends_where_it_stops))]
     pub fn refusal(&self, outs: &[Out]) -> Option<Refusal>
-        ensures { result ≡ first_ends (parts_with self.now.contents self.now.parts) (answers_of outs.now) }
+        ensures { result ≡ why_ended self.now outs.now }
     {
         stops(&self.parts, outs)
     }
 
-    /// The content of the offer at this place, moved out; None where the place has no offer, or where it was taken.
+    /// The content of the offer at this place, moved out; None where the place has no offer, or
+    /// where it was taken.
     #[tactic(auto, unfolding(crate::specs::Drafts::without_content))]
     pub fn content(&mut self, index: usize) -> Option<Content>
         ensures content { result ≡ content_at index self.old.contents }

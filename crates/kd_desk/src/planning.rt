@@ -4,21 +4,19 @@ ghost use Rattle.std.specs.Prelude.{◌≡◌, ◌<◌, ◌^◌, [], Some, false
 ghost use Rattle.std.specs.Borrow.{Bor};
 ghost use Rattle.kd_model.specs.Words.{all_of};
 ghost use Rattle.kd_wire.specs.Commands.{opcode_in};
-ghost use Rattle.kd_wire.specs.Opcodes.{number_of};
+ghost use Rattle.kd_wire.specs.Opcodes.{opcode_number};
 ghost use Rattle.kd_wire.specs.WellFormed.{is_well_formed};
-ghost use Rattle.kd_desk.specs.Drafts.{Answers};
-ghost use Rattle.kd_desk.specs.Runs.{answered, conn_answered, is_handover_by, is_not_run, is_plain, is_plain_send, runs, takes_over};
-ghost use Rattle.kd_desk.specs.State.{conn_of, is_ordinary};
-ghost use Rattle.kd_desk.specs.Step.{from_fresh, from_gone, from_old_keeper};
-ghost use Rattle.kd_desk.specs.declared.conn.Conn as conn;
+ghost use Rattle.kd_desk.specs.Drafts.{PlanResult, quiet_draft};
+ghost use Rattle.kd_desk.specs.Runs.{answered, conn_answered, is_handover_by, is_not_run, is_plain, is_plain_send, is_planned, takes_over};
+ghost use Rattle.kd_commands.specs.State.{conn_of, is_ordinary};
+ghost use Rattle.kd_commands.specs.Step.{from_fresh, from_gone, from_old_keeper};
+ghost use Rattle.kd_commands.specs.declared.conn.Conn as conn;
 
 use crate::change::Change;
-use crate::conn::Conn;
 use crate::desk::Desk;
 use crate::naming::has_activator;
 use crate::plan::Plan;
-use crate::sent::Sent;
-use crate::who::{Who, WhoKind};
+use kd_commands::{Conn, Sent, Who, WhoKind};
 use kd_types::{ConnId, Creds, Kind, NameFlags, Refusal, Seat, SendFlags, Text};
 use kd_wire::{Command, Reply, WireItem};
 use std::alloc::Global;
@@ -32,7 +30,8 @@ fn is_plain(item: &WireItem) -> bool
     matches!(item, WireItem::Payload(_) | WireItem::DstName(_))
 }
 
-/// Whether a message goes to one receiver, expects no reply, and has nothing but payloads and the name that it is sent to.
+/// Whether a message goes to one receiver, expects no reply, and has nothing but payloads and the
+/// name that it is sent to.
 fn is_plain_send(flags: SendFlags, dst: u64, items: &[WireItem]) -> bool
     ensures { result ≡ is_plain_send flags dst items.now }
 {
@@ -51,11 +50,11 @@ fn are_plain(items: &[WireItem]) -> bool
     items.iter().all(|item| is_plain(item))
 }
 
-/// Whether the command is run so far: ordinary connections on the default endpoint, without metadata; messages to one receiver, of which
-/// no reply is expected; names.
-#[tactic(auto, unfolding(crate::specs::Runs::runs))]
+/// Whether the command is run so far: ordinary connections on the default endpoint, without
+/// metadata; messages to one receiver, of which no reply is expected; names.
+#[tactic(auto, unfolding(crate::specs::Runs::is_planned))]
 fn runs(cmd: &Command) -> bool
-    ensures { result ≡ runs cmd.now }
+    ensures { result ≡ is_planned cmd.now }
 {
     match cmd {
         Command::Hello {
@@ -84,7 +83,7 @@ fn runs(cmd: &Command) -> bool
 }
 
 fn unsupported(cmd: &Command) -> Refusal
-    ensures { result ≡ Refusal.Unsupported (number_of (opcode_in cmd.now)) }
+    ensures { result ≡ Refusal.Unsupported (opcode_number (opcode_in cmd.now)) }
 {
     Refusal::Unsupported {
         cmd: cmd.opcode().number(),
@@ -93,7 +92,7 @@ fn unsupported(cmd: &Command) -> Refusal
 
 /// A plan that visits nobody.
 fn quiet(alloc: Global, reply: Reply, change: Change, after: WhoKind) -> Plan
-    ensures { result ≡ record { parts = []; contents = []; reply = reply; change = change; after = after } }
+    ensures { result ≡ quiet_draft reply change after }
 {
     Plan {
         parts: Vec::new(alloc),
@@ -141,7 +140,8 @@ impl Desk {
         }
     }
 
-    /// Whether the command is run so far for whoever gives it; if it isn't, its plan is refused as `Unsupported`.
+    /// Whether the command is run so far for whoever gives it; if it isn't, its plan is refused as
+    /// `Unsupported`.
     pub fn runs(&self, who: &Who, cmd: &Command) -> bool
         ensures { result ≡ not (is_not_run self.now who.now.member cmd.now) }
     {
@@ -154,14 +154,15 @@ impl Desk {
         }
     }
 
-    /// What a command comes to, for whoever gives it. A refusal is the first that holds: a command that isn't run yet is
-    /// `Unsupported`, then a caller that may not give it at all is in the `WrongState`, and then the command's own come in their order.
-    /// Nothing changes; the plan takes all memory of the command, or the refusal is `OutOfMemory`.
-    #[tactic(auto, unfolding(crate::specs::Runs::answered, crate::specs::Runs::conn_answered, crate::specs::Step::plan))]
+    /// What a command comes to, for whoever gives it. A refusal is the first that holds: a command
+    /// that isn't run yet is `Unsupported`, then a caller that may not give it at all is in the
+    /// `WrongState`, and then the command's own come in their order. Nothing changes; the plan
+    /// takes all memory of the command, or the refusal is `OutOfMemory`.
+    #[tactic(auto, unfolding(crate::specs::Runs::answered, crate::specs::Runs::conn_answered, kd_commands::specs::Step::plan))]
     pub fn plan(&self, alloc: Global, who: &Who, cmd: Command) -> Result<Plan, Refusal>
         requires form { IsTrue (is_well_formed cmd) }
         requires ids { self.now.next_id < 2 ^ 63 }
-        ensures { Answers self.now (answered self.now who.now cmd) result }
+        ensures { PlanResult self.now (answered self.now who.now cmd) result }
     {
         if !runs(&cmd) {
             return Err(unsupported(&cmd));
@@ -179,12 +180,12 @@ impl Desk {
     }
 
     /// Whoever is nothing yet. What it says of itself in an ENTER isn't the desk's.
-    #[tactic(auto, unfolding(crate::specs::Runs::runs, crate::specs::Drafts::drafted, crate::specs::Drafts::applied, crate::specs::Drafts::Fits))]
+    #[tactic(auto, using(crate::proofs::Visits::nothing_offered), unfolding(crate::specs::Runs::is_planned, crate::specs::Drafts::drafted, crate::specs::Drafts::applied, crate::specs::Drafts::Fits))]
     fn from_fresh(&self, alloc: Global, creds: &Creds, cmd: Command) -> Result<Plan, Refusal>
         requires form { IsTrue (is_well_formed cmd) }
         requires ids { self.now.next_id < 2 ^ 63 }
-        requires runs { IsTrue (runs cmd) }
-        ensures { Answers self.now (from_fresh self.now creds.now cmd) result }
+        requires runs { IsTrue (is_planned cmd) }
+        ensures { PlanResult self.now (from_fresh self.now creds.now cmd) result }
     {
         match cmd {
             Command::Hello { pool, .. } => self.plan_hello(alloc, creds, pool),
@@ -201,9 +202,9 @@ impl Desk {
 
     /// A live connection.
     fn from_conn(&self, alloc: Global, conn: &Conn, cmd: Command) -> Result<Plan, Refusal>
-        requires runs { IsTrue (runs cmd) }
+        requires runs { IsTrue (is_planned cmd) }
         requires live { conn_of self.now conn.now.id ≡ Some conn.now }
-        ensures { Answers self.now (conn_answered self.now conn.now cmd) result }
+        ensures { PlanResult self.now (conn_answered self.now conn.now cmd) result }
     {
         match conn.kind {
             Kind::Ordinary => self.from_ordinary(alloc, conn, cmd),
@@ -212,12 +213,12 @@ impl Desk {
     }
 
     /// A live connection that neither sends nor owns names by itself.
-    #[tactic(auto, unfolding(crate::specs::Runs::conn_answered, crate::specs::Runs::runs))]
+    #[tactic(auto, unfolding(crate::specs::Runs::conn_answered, crate::specs::Runs::is_planned))]
     fn from_other(&self, alloc: Global, conn: &Conn, cmd: Command) -> Result<Plan, Refusal>
-        requires runs { IsTrue (runs cmd) }
+        requires runs { IsTrue (is_planned cmd) }
         requires live { conn_of self.now conn.now.id ≡ Some conn.now }
         requires other { is_ordinary conn.now.kind ≡ false }
-        ensures { Answers self.now (conn_answered self.now conn.now cmd) result }
+        ensures { PlanResult self.now (conn_answered self.now conn.now cmd) result }
     {
         match cmd {
             Command::Byebye => self.plan_byebye(alloc, conn),
@@ -228,12 +229,12 @@ impl Desk {
     }
 
     /// A live ordinary connection.
-    #[tactic(auto, unfolding(crate::specs::Runs::conn_answered, crate::specs::Runs::runs))]
+    #[tactic(auto, unfolding(crate::specs::Runs::conn_answered, crate::specs::Runs::is_planned))]
     fn from_ordinary(&self, alloc: Global, conn: &Conn, cmd: Command) -> Result<Plan, Refusal>
-        requires runs { IsTrue (runs cmd) }
+        requires runs { IsTrue (is_planned cmd) }
         requires live { conn_of self.now conn.now.id ≡ Some conn.now }
         requires ordinary { conn.now.kind ≡ Kind.Ordinary }
-        ensures { Answers self.now (conn_answered self.now conn.now cmd) result }
+        ensures { PlanResult self.now (conn_answered self.now conn.now cmd) result }
     {
         match cmd {
             Command::Byebye => self.plan_byebye(alloc, conn),
@@ -268,10 +269,10 @@ impl Desk {
     }
 
     /// A connection that others closed.
-    #[tactic(auto, unfolding(crate::specs::Runs::runs, crate::specs::Drafts::drafted, crate::specs::Drafts::applied, crate::specs::Drafts::Fits))]
+    #[tactic(auto, using(crate::proofs::Visits::nothing_offered), unfolding(crate::specs::Runs::is_planned, crate::specs::Drafts::drafted, crate::specs::Drafts::applied, crate::specs::Drafts::Fits))]
     fn from_gone(&self, alloc: Global, seat: Seat, cmd: Command) -> Result<Plan, Refusal>
-        requires runs { IsTrue (runs cmd) }
-        ensures { Answers self.now (from_gone self.now seat cmd) result }
+        requires runs { IsTrue (is_planned cmd) }
+        ensures { PlanResult self.now (from_gone self.now seat cmd) result }
     {
         let reply = match cmd {
             Command::Byebye => Reply::Byebye,
@@ -282,10 +283,10 @@ impl Desk {
     }
 
     /// A keeper of an endpoint of a bus that was removed since.
-    #[tactic(auto, unfolding(crate::specs::Runs::runs, crate::specs::Drafts::drafted, crate::specs::Drafts::applied, crate::specs::Drafts::Fits))]
+    #[tactic(auto, using(crate::proofs::Visits::nothing_offered), unfolding(crate::specs::Runs::is_planned, crate::specs::Drafts::drafted, crate::specs::Drafts::applied, crate::specs::Drafts::Fits))]
     fn from_old_keeper(&self, alloc: Global, cmd: Command) -> Result<Plan, Refusal>
-        requires runs { IsTrue (runs cmd) }
-        ensures { Answers self.now (from_old_keeper self.now cmd) result }
+        requires runs { IsTrue (is_planned cmd) }
+        ensures { PlanResult self.now (from_old_keeper self.now cmd) result }
     {
         match cmd {
             Command::Close => Ok(quiet(alloc, Reply::Close, Change::Nothing, WhoKind::Fresh)),

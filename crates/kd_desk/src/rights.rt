@@ -4,12 +4,12 @@
 
 ghost use Rattle.std.specs.Prelude.{◌≡◌, ◌&&◌, ◌||◌, ◌==◌, Option, IfOk};
 ghost use Rattle.kd_model.specs.Words.{some_of};
-ghost use Rattle.kd_desk.specs.Rights.{bus_grants, endpoint_grants, grants, is_privileged, may_own, may_see, may_see_name, may_talk, reaches};
+ghost use Rattle.kd_commands.specs.Rights.{bus_grants, endpoint_grants, grants, is_privileged, may_own, may_see, may_see_name, may_talk, reaches};
 ghost use Rattle.kd_policy.specs.Level.{rank};
 ghost use Rattle.kd_registry.specs.Changes.{names_of};
 
-use crate::conn::Conn;
 use crate::desk::Desk;
+use kd_commands::Conn;
 use kd_policy::{PolicyDb, Scope};
 use kd_types::{ConnId, Creds, Level, Text};
 use std::alloc::{AllocError, Global};
@@ -75,7 +75,7 @@ impl Desk {
     }
 
     /// Whether the connection may see that the name is owned, and its owner.
-    #[tactic(auto, unfolding(crate::specs::Rights::may_see_name))]
+    #[tactic(auto, unfolding(kd_commands::specs::Rights::may_see_name))]
     pub(crate) fn may_see_name(&self, conn: &Conn, name: &Text) -> bool
         ensures { result ≡ may_see_name self.now conn.now name.now }
     {
@@ -92,7 +92,7 @@ impl Desk {
     }
 
     /// Whether the connection may own the name.
-    #[tactic(auto, unfolding(crate::specs::Rights::may_own))]
+    #[tactic(auto, unfolding(kd_commands::specs::Rights::may_own))]
     pub(crate) fn may_own(&self, conn: &Conn, name: &Text) -> bool
         ensures { result ≡ may_own self.now conn.now name.now }
     {
@@ -112,7 +112,7 @@ impl Desk {
     }
 
     /// Whether the connection may see another one.
-    #[tactic(auto, unfolding(crate::specs::Rights::may_see))]
+    #[tactic(auto, unfolding(kd_commands::specs::Rights::may_see))]
     pub(crate) fn may_see(
         &self,
         alloc: Global,
@@ -126,7 +126,7 @@ impl Desk {
     }
 
     /// Whether the connection may send to another one.
-    #[tactic(auto, unfolding(crate::specs::Rights::may_talk))]
+    #[tactic(auto, unfolding(kd_commands::specs::Rights::may_talk))]
     pub(crate) fn may_talk(
         &self,
         alloc: Global,

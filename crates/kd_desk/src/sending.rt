@@ -3,20 +3,17 @@
 ghost use Rattle.std.specs.Prelude.{◌≡◌, ◌&&◌, ◌∷◌, [], not, ◌<◌, IfOk, IfErr, IfSome, Some, None, nat_lt, option_map};
 ghost use Rattle.kd_image.specs.Images.{image_length};
 ghost use Rattle.kd_image.specs.Said.{nothing_attached};
-ghost use Rattle.kd_desk.specs.Drafts.{Answers};
-ghost use Rattle.kd_desk.specs.Items.{destination_name, payloads};
-ghost use Rattle.kd_desk.specs.Rights.{may_talk};
-ghost use Rattle.kd_desk.specs.Send.{asker_of, is_reply, live_ordinary, message_of, passes, receiver, refusals_by, refusals_by_id, refusals_by_name, refusals_of_unicast};
-ghost use Rattle.kd_desk.specs.Sending.{change_of, IsPlain, Judges};
-ghost use Rattle.kd_desk.specs.State.{is_activator};
-ghost use Rattle.kd_desk.specs.Step.{send};
+ghost use Rattle.kd_desk.specs.Drafts.{PlanResult};
+ghost use Rattle.kd_commands.specs.Items.{destination_name, payloads};
+ghost use Rattle.kd_commands.specs.Rights.{may_talk};
+ghost use Rattle.kd_commands.specs.Send.{asker_of, is_reply, live_ordinary, receiver, refusals_by_id, refusals_by_name, refusals_of_unicast, send};
+ghost use Rattle.kd_commands.specs.Messages.{message_of};
+ghost use Rattle.kd_desk.specs.Sending.{IsPlain, Judges, change_of, reaches_activator, refusals_of_way};
 
 use crate::change::Change;
-use crate::conn::Conn;
 use crate::desk::Desk;
 use crate::plan::Plan;
-use crate::sent::Sent;
-use crate::who::WhoKind;
+use kd_commands::{Conn, Sent, WhoKind};
 use kd_image::{Attached, Message, image_len, is_short};
 use kd_name::is_name;
 use kd_types::{Blob, BlobList, ConnId, Cookie, Kind, Refusal, Text, TextList};
@@ -38,7 +35,8 @@ fn destination(items: &[WireItem]) -> Option<&Text>
     None
 }
 
-/// The name that a message is sent to, if one is given, and its payloads in order. They are moved and not copied.
+/// The name that a message is sent to, if one is given, and its payloads in order. They are moved
+/// and not copied.
 fn sort(alloc: Global, items: Vec<WireItem>) -> Result<(Option<Text>, Vec<Blob>), AllocError>
     ensures name { IfOk result (λ found. found.0 ≡ destination_name items.items) }
     ensures payloads { IfOk result (λ found. found.1.items ≡ payloads items.items) }
@@ -104,7 +102,7 @@ fn is_too_long(alloc: Global, message: &Message) -> bool
 
 /// Whether it is an activator.
 fn is_placeholder(found: Option<&Conn>) -> bool
-    ensures { result ≡ passes (λ c. is_activator c.kind) (option_map (λ c. c.now) found.entry) }
+    ensures { result ≡ reaches_activator (option_map (λ c. c.now) found.entry) }
 {
     match found {
         Some(conn) => matches!(conn.kind, Kind::Activator),
@@ -132,7 +130,7 @@ impl Desk {
     }
 
     /// Whether the message is the reply to a request that waits for the sender's.
-    #[tactic(auto, unfolding(crate::specs::Send::is_reply))]
+    #[tactic(auto, unfolding(kd_commands::specs::Send::is_reply))]
     fn is_reply(&self, sender: &Conn, sent: &Sent) -> bool
         requires { IsPlain sent.now }
         ensures { result ≡ is_reply self.now sender.now sent.now }
@@ -168,7 +166,8 @@ impl Desk {
         }
     }
 
-    /// Whether the sender may send to the id: a connection has it, which the sender may see, or whose request it answers.
+    /// Whether the sender may send to the id: a connection has it, which the sender may see, or
+    /// whose request it answers.
     fn judge_id(
         &self,
         alloc: Global,
@@ -191,8 +190,9 @@ impl Desk {
         Ok(())
     }
 
-    /// Whether the sender may send to the owner of the name: it has one, which the sender may see, or whose request it answers; it is
-    /// the one that the id says too, if one is given; and it may be started.
+    /// Whether the sender may send to the owner of the name: it has one, which the sender may see,
+    /// or whose request it answers; it is the one that the id says too, if one is given; and it may
+    /// be started.
     fn judge_name(
         &self,
         sender: &Conn,
@@ -231,7 +231,12 @@ impl Desk {
         receiver: &Conn,
         expected: bool,
     ) -> Result<(), Refusal>
-        ensures { Judges ((not (may_talk self.now sender.now receiver.now) && not expected, Refusal.NotPermitted) ∷ []) result }
+        ensures { Judges ((
+          not (may_talk self.now sender.now receiver.now)
+              && not expected,
+          Refusal.NotPermitted,
+        )
+            ∷ []) result }
     {
         let talks = self.may_talk(alloc, sender, receiver)?;
         if !talks && !expected {
@@ -251,7 +256,7 @@ impl Desk {
     ) -> Result<(), Refusal>
         requires found { option_map (λ c. c.now) found ≡ receiver self.now sent.now }
         requires expected { expected ≡ is_reply self.now sender.now sent.now }
-        ensures { Judges (refusals_by self.now sender.now sent.now (destination_name sent.now.items)) result }
+        ensures { Judges (refusals_of_way self.now sender.now sent.now) result }
     {
         match destination(sent.items.items()) {
             Some(name) => self.judge_name(sender, sent, name, found, expected),
@@ -283,8 +288,8 @@ impl Desk {
         Ok(receiver)
     }
 
-    /// What a message to one receiver comes to: an offer at the receiver, which has to take it, and one at each monitor, which may let
-    /// it go by. A reply takes the request away that it answers.
+    /// What a message to one receiver comes to: an offer at the receiver, which has to take it, and
+    /// one at each monitor, which may let it go by. A reply takes the request away that it answers.
     pub(crate) fn plan_send(
         &self,
         alloc: Global,
@@ -292,7 +297,7 @@ impl Desk {
         sent: Sent,
     ) -> Result<Plan, Refusal>
         requires plain { IsPlain sent }
-        ensures { Answers self.now (send self.now sender.now sent) result }
+        ensures { PlanResult self.now (send self.now sender.now sent) result }
     {
         if sent.flags.signal() {
             return Err(Refusal::BroadcastMisuse);

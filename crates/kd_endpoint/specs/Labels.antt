@@ -23,32 +23,39 @@ is_called label None = false
 is_called label (Some own) = same own label
 
 -- the number of the endpoint with this label
-unfoldable pub number_of : Labels → List ℕ → Option ℕ
-number_of labels label =
-    if same label default_label then Some 0 else option_map (λ place. place + 1) (position (is_called label) labels)
+unfoldable pub label_number : Labels → List ℕ → Option ℕ
+label_number labels label =
+    if same label default_label then Some 0
+    else option_map (λ place. place + 1) (position (is_called label) labels)
 
 -- the place of the lowest number that no endpoint has
 unfoldable pub free_place : Labels → Option ℕ
 free_place labels = position is_none labels
 
 -- why the label can't be added, as the first of these that holds
-unfoldable pub add_refusal : Labels → List ℕ → Option Refusal
-add_refusal labels label =
+unfoldable pub label_refusal : Labels → List ℕ → Option Refusal
+label_refusal labels label =
     first_that_holds
     ((not (is_label label), BadName)
-    ∷ (is_some (number_of labels label), EndpointExists)
+    ∷ (is_some (label_number labels label), EndpointExists)
     ∷ (is_none (free_place labels), TooMany 8)
     ∷ [])
 
 -- what adding the label answers: a refusal, or the lowest number that no endpoint has
 unfoldable pub add_answer : Labels → List ℕ → Result ℕ Refusal
 add_answer labels label =
-    elim (add_refusal labels label) [ Some refusal ↦ Err refusal | None ↦ Ok (unwrap_or (free_place labels) 0 + 1) ]
+    elim (label_refusal labels label) [
+      | Some refusal ↦ Err refusal
+      | None ↦ Ok (unwrap_or (free_place labels) 0 + 1)
+    ]
 
 -- the book after the label was added, or not
 unfoldable pub after_add : Labels → List ℕ → Labels
 after_add labels label =
-    elim (add_refusal labels label) [ Some refusal ↦ labels | None ↦ slice_set labels (unwrap_or (free_place labels) 0) (Some label) ]
+    elim (label_refusal labels label) [
+      | Some refusal ↦ labels
+      | None ↦ slice_set labels (unwrap_or (free_place labels) 0) (Some label)
+    ]
 
 -- the numbers of the endpoints beside the default one
 abbrev pub is_number : ℕ → Bool

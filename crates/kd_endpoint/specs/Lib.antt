@@ -1,1 +1,2 @@
+-- what a reader has to believe
 pub mod Labels

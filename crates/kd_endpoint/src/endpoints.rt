@@ -1,20 +1,22 @@
 //! The book of labels.
 
 ghost use Rattle.std.specs.Prelude.{◌≡◌, ◌<◌, ◌≤◌, IfOk, IfSome, OnErr, position};
-ghost use Rattle.kd_endpoint.specs.Labels.{is_called, free_place, no_labels, number_of, add_answer, after_add, after_remove};
+ghost use Rattle.kd_endpoint.specs.Labels.{is_called, free_place, no_labels, label_number, add_answer, after_add, after_remove};
 
 use kd_name::is_label;
 use kd_types::{Refusal, Text};
 use std::alloc::{AllocError, Global};
 use std::marker::Model;
 
-/// How many endpoints a bus may have beside its default one: a connection that asks for one more is refused.
+/// How many endpoints a bus may have beside its default one: a connection that asks for one more is
+/// refused.
 pub const ENDPOINTS: usize = 8;
 
 /// The label of the default endpoint, which can't be taken or given away.
 const DEFAULT_LABEL: &[u8] = b"bus";
 
-/// The labels of a bus's endpoints. A contract sees them as the list of the labels of the endpoints 1 to 8, where there are such.
+/// The labels of a bus's endpoints. A contract sees them as the list of the labels of the endpoints
+/// 1 to 8, where there are such.
 #[derive(Debug, Drop)]
 pub struct Endpoints {
     labels: [Option<Text>; ENDPOINTS],
@@ -29,7 +31,8 @@ impl Model for Endpoints {
 }
 
 impl Endpoints {
-    /// The book of a bus that has its default endpoint alone. The labels stand in the value itself, so no memory is asked for today.
+    /// The book of a bus that has its default endpoint alone. The labels stand in the value itself,
+    /// so no memory is asked for today.
     pub fn make(_alloc: Global) -> Result<Endpoints, AllocError>
         ensures empty { IfOk result (λ e. e ≡ no_labels) }
     {
@@ -38,10 +41,11 @@ impl Endpoints {
         })
     }
 
-    /// Adds an endpoint with this label and answers its number, the lowest free one. It is refused where the text is no label
-    /// (`BadName`), where an endpoint has the label already, as the default one has `bus` (`EndpointExists`), and where all eight
-    /// numbers are taken (`TooMany`); a refusal changes nothing.
-    #[tactic(auto, unfolding(crate::specs::Labels::add_answer, crate::specs::Labels::after_add, crate::specs::Labels::add_refusal))]
+    /// Adds an endpoint with this label and answers its number, the lowest free one. It is refused
+    /// where the text is no label (`BadName`), where an endpoint has the label already, as the
+    /// default one has `bus` (`EndpointExists`), and where all eight numbers are taken (`TooMany`);
+    /// a refusal changes nothing.
+    #[tactic(auto, unfolding(crate::specs::Labels::add_answer, crate::specs::Labels::after_add, crate::specs::Labels::label_refusal))]
     pub fn add(&mut self, label: Text) -> Result<u8, Refusal>
         ensures answer { result ≡ add_answer self.old label }
         ensures number { IfOk result (λ n. (1 ≤ n) × (n ≤ 8)) }
@@ -54,7 +58,7 @@ impl Endpoints {
     }
 
     /// What `add` would answer to this label.
-    #[tactic(auto, unfolding(crate::specs::Labels::add_answer, crate::specs::Labels::add_refusal))]
+    #[tactic(auto, unfolding(crate::specs::Labels::add_answer, crate::specs::Labels::label_refusal))]
     pub fn may_add(&self, label: &[u8]) -> Result<u8, Refusal>
         ensures answer { result ≡ add_answer self.now label.now }
         ensures number { IfOk result (λ n. (1 ≤ n) × (n ≤ 8)) }
@@ -71,7 +75,8 @@ impl Endpoints {
         Ok(place as u8 + 1)
     }
 
-    /// Removes the endpoint of this number. Nothing happens for the default endpoint, and for a number that no endpoint has.
+    /// Removes the endpoint of this number. Nothing happens for the default endpoint, and for a
+    /// number that no endpoint has.
     #[tactic(auto, unfolding(crate::specs::Labels::after_remove))]
     pub fn remove(&mut self, number: u8)
         ensures { self.new ≡ after_remove self.old number }
@@ -82,9 +87,9 @@ impl Endpoints {
     }
 
     /// The number of the endpoint with this label: 0 for `bus`.
-    #[tactic(auto, unfolding(crate::specs::Labels::number_of))]
+    #[tactic(auto, unfolding(crate::specs::Labels::label_number))]
     pub fn find(&self, label: &[u8]) -> Option<u8>
-        ensures { result ≡ number_of self.now label.now }
+        ensures { result ≡ label_number self.now label.now }
     {
         if label == DEFAULT_LABEL {
             return Some(0);

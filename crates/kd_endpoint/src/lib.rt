@@ -1,6 +1,8 @@
-//! The endpoints of a bus, after the manual page kdbus.endpoint: which labels they have, and by which numbers the bus knows them.
+//! The endpoints of a bus, after the manual page kdbus.endpoint: which labels they have, and by
+//! which numbers the bus knows them.
 //!
-//! Number 0 is the default endpoint, whose label is `bus`. Up to eight others are made and removed while the bus lives:
+//! Number 0 is the default endpoint, whose label is `bus`. Up to eight others are made and removed
+//! while the bus lives:
 //!
 //! ```text
 //!     number   0     1       2      3        4 .. 8

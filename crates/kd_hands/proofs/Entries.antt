@@ -4,7 +4,7 @@ use Rattle.std.proofs.lemmas.Grind.{common_steps}
 use mathlib.Core.List.{IsPrefix}
 use Rattle.std.specs.Prelude.{Option}
 use Rattle.kd_hands.specs.Lists.{at_place, made_by}
-use Rattle.kd_hands.specs.World.{World, entered, hands_after, opened_after}
+use Rattle.kd_hands.specs.Locks.{Locks, entered, hands_after, opened_after}
 use Rattle.kd_hands.proofs.Places.{every, place_here, place_else, row_else, both_else}
 
 pub prefix_more : {A : Type 0} (xs ys zs : List A) → IsPrefix xs ys → IsPrefix xs (ys ++ zs)
@@ -18,8 +18,8 @@ module _ {E : Type 0} (j i : ℕ) (e : E) (list : List (ℕ × E)) where
   made_mine z = grind (arith, common_steps)
 
 -- the pass j put the entry e on the lock l
-module _ {E : Type 0} (after : ℕ → E → (ℕ → List ℕ) → ℕ → List ℕ) (l j : ℕ) (e : E) (w : World E) where
-  abbrev w' : World E
+module _ {E : Type 0} (after : ℕ → E → (ℕ → List ℕ) → ℕ → List ℕ) (l j : ℕ) (e : E) (w : Locks E) where
+  abbrev w' : Locks E
   w' = entered after l j e w
 
   abbrev list' : List (ℕ × E)
@@ -42,7 +42,7 @@ module _ {E : Type 0} (after : ℕ → E → (ℕ → List ℕ) → ℕ → List
   unswept sole = every (λ i f. f l ≡ []) w.swept j (at_place (w.swept j) l []) (place_here (w.swept j) l l [] refl) sole
 
 module _ {E : Type 0} (after : ℕ → E → List ℕ → List ℕ) (empties : E → Option ℕ) where
-  pub mine_here : (l j : ℕ) (e : E) (w : World E) → (entered (hands_after after empties) l j e w).hands j l ≡ after l e (w.hands j l)
+  pub mine_here : (l j : ℕ) (e : E) (w : Locks E) → (entered (hands_after after empties) l j e w).hands j l ≡ after l e (w.hands j l)
   mine_here l j e w = grind arith
 
   -- an entry puts nothing into a hand of another lock

@@ -3,6 +3,7 @@ use Rattle.std.proofs.Common.{◌≡◌, ℕ, ◌*◌, ◌/◌, ◌%◌, ◌^◌
 use Rattle.std.specs.Prelude.{Option, Some, None, nat_lt}
 use Rattle.std.specs.Int.{bit_at}
 use Rattle.std.proofs.lemmas.Nat.Bits.{bit_at_or, bit_at-zero, bit_at-lt, bit_at-pow_same, bit_at-pow_other}
+use Rattle.std.proofs.Math.Bool.{and-false}
 use Rattle.std.proofs.lemmas.Bool.{lt-ltb}
 use Rattle.std.proofs.lemmas.List.Folds.{list_any-append}
 use Rattle.std.proofs.lemmas.Map.Views.{any-filter_same}
@@ -10,14 +11,12 @@ use Rattle.std.proofs.lemmas.Nat.{pow_below}
 use native.Mathlib.Nat.{mod-eq_of_lt}
 use mathlib.Core.Logic.{dite}
 use native.Mathlib.Decide.{ℕ_discrete}
-use Rattle.kd_hands.specs.Lists.{has, without, has_bit, is_marked, was_swept, is_word_of, at_place, is_at}
-use Rattle.kd_hands.specs.World.{World, Handed, opening_world, taken, with_mark, marked_in, swept_in, entered, hands_after}
+use Rattle.kd_model.proofs.Truth.{not_true}
+use Rattle.kd_hands.specs.Lists.{hand_has, hand_without, has_mark, is_marked, was_swept, is_word_of, at_place, is_at}
+use Rattle.kd_hands.specs.Locks.{Locks, Handed, opening_locks, taken, with_mark, marked_in, swept_in, entered, hands_after}
 use Rattle.kd_hands.specs.Settles.{Settles, Unlent}
-use Rattle.kd_hands.proofs.Places.{every, place_here, place_else, both_here, true_or_not, not_both}
+use Rattle.kd_hands.proofs.Places.{every, place_here, place_else, both_here, not_both}
 use Rattle.kd_hands.proofs.Entries.{lists_here, lists_else, mine_here, others, swept_else, unswept}
-
-and_false : (a : Bool) → (a && false) ≡ false
-and_false a = grind arith
 
 -- the bit of a number in its word
 pub same_power : (n m : ℕ) → 2 ^ n ≡ 2 ^ m → n ≡ m
@@ -27,14 +26,14 @@ pub bit_is : (n : ℕ) → n < 64 → (1 * 2 ^ n) % 2 ^ 64 ≡ 2 ^ n
 bit_is n h = let p : 2 ^ n < 2 ^ 64 = pow_below n 64 h in let one : 1 * 2 ^ n ≡ 2 ^ n = omega arith in ap (λ (k : ℕ). k % 2 ^ 64) one ∙ mod-eq_of_lt p
 
 -- the hand without a number
-has_without : (a n : ℕ) (hand : List ℕ) → has a (without n hand) ≡ (not (a == n) && has a hand)
+has_without : (a n : ℕ) (hand : List ℕ) → hand_has a (hand_without n hand) ≡ (not (a == n) && hand_has a hand)
 has_without a n hand = any-filter_same (λ x. x == a) (λ x. not (x == n)) (not (a == n)) (λ k e. ap (λ x. not (x == n)) (eqb-true k a e)) hand
 
-pub gone_from : (n : ℕ) (hand : List ℕ) → has n (without n hand) ≡ false
-gone_from n hand = has_without n n hand ∙ ap (λ b. not b && has n hand) (eq-eqb n n refl)
+pub gone_from : (n : ℕ) (hand : List ℕ) → hand_has n (hand_without n hand) ≡ false
+gone_from n hand = has_without n n hand ∙ ap (λ b. not b && hand_has n hand) (eq-eqb n n refl)
 
-kept_in : (a n : ℕ) (hand : List ℕ) → a ≢ n → has a (without n hand) ≡ has a hand
-kept_in a n hand ne = has_without a n hand ∙ ap (λ b. not b && has a hand) (ne_eqb a n ne)
+kept_in : (a n : ℕ) (hand : List ℕ) → a ≢ n → hand_has a (hand_without n hand) ≡ hand_has a hand
+kept_in a n hand ne = has_without a n hand ∙ ap (λ b. not b && hand_has a hand) (ne_eqb a n ne)
 
 -- the words after the number n is marked
 module _ (words : ℕ → ℕ) (n : ℕ) where
@@ -55,13 +54,13 @@ module _ (words : ℕ → ℕ) (n : ℕ) where
 module _ (words : ℕ → ℕ) (q b : ℕ) where
   swept_it : b / 64 ≡ q → is_marked b (at_place words q 0) ≡ false
   swept_it e = let z = bit_at-zero (b % 64) in ap (λ t. nat_lt b 256 && t)
-      (ap (λ (m : ℕ). bit_at m (b % 64) == 1) (place_here words q (b / 64) 0 e) ∙ ap (λ (m : ℕ). m == 1) z) ∙ and_false (nat_lt b 256)
+      (ap (λ (m : ℕ). bit_at m (b % 64) == 1) (place_here words q (b / 64) 0 e) ∙ ap (λ (m : ℕ). m == 1) z) ∙ and-false (nat_lt b 256)
 
   swept_not : b / 64 ≢ q → is_marked b (at_place words q 0) ≡ is_marked b words
   swept_not ne = ap (λ (m : ℕ). nat_lt b 256 && (bit_at m (b % 64) == 1)) (place_else words q (b / 64) 0 ne)
 
--- The point on hands for one number of one lock: whether it is lent and out, who may have it, who has it, who has swept it or its word, and whether
--- it is marked
+-- The point on hands for one number of one lock: whether it is lent and out, who may have it, who
+-- has it, who has swept it or its word, and whether it is marked
 pub record Placed (Lent Out : Type 0) (keeper holder : Option ℕ) (hands swept words : ℕ → Bool) (marked : Bool) : Type 0 where
   pub lent : (j : ℕ) → hands j ≡ true → Lent
   pub lent_mark : marked ≡ true → Lent
@@ -72,14 +71,14 @@ pub record Placed (Lent Out : Type 0) (keeper holder : Option ℕ) (hands swept 
   pub clear : (j : ℕ) → holder ≡ Some j → keeper ≡ None → words j ≡ true → marked ≡ false
 
 module _ {E : Type 0} (lends out : ℕ → List (ℕ × E) → ℕ → Type 0) (keeper : ℕ → List (ℕ × E) → Option ℕ) where
-  abbrev pub Number : World E → ℕ → ℕ → Type 0
+  abbrev pub Number : Locks E → ℕ → ℕ → Type 0
   Number w l n = Placed (lends l (w.told.lists l) n) (out l (w.told.lists l) n) (keeper l (w.told.lists 0)) w.holder
-      (λ j. has n (w.hands j l)) (λ j. was_swept n (w.swept j l)) (λ j. is_word_of n (w.swept j l)) (is_marked n (w.marks l))
+      (λ j. hand_has n (w.hands j l)) (λ j. was_swept n (w.swept j l)) (λ j. is_word_of n (w.swept j l)) (is_marked n (w.marks l))
 
-  pub number : (w : World E) → Handed lends out keeper w → (l n : ℕ) → Number w l n
+  pub number : (w : Locks E) → Handed lends out keeper w → (l n : ℕ) → Number w l n
   number w h l n = search (h.lent, h.lent_mark, h.kept, h.found, h.once, h.gone, h.clear)
 
-  pub handed : (w : World E) → ((l n : ℕ) → Number w l n) → Handed lends out keeper w
+  pub handed : (w : Locks E) → ((l n : ℕ) → Number w l n) → Handed lends out keeper w
   handed w p = record {
     lent = λ j l n. (p l n).lent j;
     lent_mark = λ l n. (p l n).lent_mark;
@@ -91,8 +90,8 @@ module _ {E : Type 0} (lends out : ℕ → List (ℕ × E) → ℕ → Type 0) (
   }
 
   -- a number of which all stays as it was
-  pub stays : (w u : World E) (k b : ℕ) → w.told.lists k ≡ u.told.lists k → w.told.lists 0 ≡ u.told.lists 0 → w.holder ≡ u.holder
-      → ((i : ℕ) → has b (w.hands i k) ≡ has b (u.hands i k))
+  pub stays : (w u : Locks E) (k b : ℕ) → w.told.lists k ≡ u.told.lists k → w.told.lists 0 ≡ u.told.lists 0 → w.holder ≡ u.holder
+      → ((i : ℕ) → hand_has b (w.hands i k) ≡ hand_has b (u.hands i k))
       → ((i : ℕ) → was_swept b (w.swept i k) ≡ was_swept b (u.swept i k)) → ((i : ℕ) → is_word_of b (w.swept i k) ≡ is_word_of b (u.swept i k))
       → is_marked b (w.marks k) ≡ is_marked b (u.marks k) → Number w k b → Number u k b
   stays w u k b list zero holder hands swept words marked =
@@ -104,7 +103,7 @@ module _ {E : Type 0} (lends out : ℕ → List (ℕ × E) → ℕ → Type 0) (
   cases l n P here else k b = dite (ℕ_discrete k l) (λ e. dite (ℕ_discrete b n) (λ f. subst (λ (z : ℕ × ℕ). P z.0 z.1) (λ t. (sym e t, sym f t)) here)
       (λ f. else k b (λ _. f))) (λ e. else k b (λ z _. e z))
 
-  module _ (w : World E) (h : Handed lends out keeper w) where
+  module _ (w : Locks E) (h : Handed lends out keeper w) where
     pub take_law : (l j : ℕ) → (l ≡ 0 → (k : ℕ) → w.swept j k ≡ []) → Handed lends out keeper (taken l j w)
     take_law l j bare =
         let clear : (i k n : ℕ) → (taken l j w).holder ≡ Some i → keeper k (w.told.lists 0) ≡ None → is_word_of n (w.swept i k) ≡ true
@@ -112,19 +111,19 @@ module _ {E : Type 0} (lends out : ℕ → List (ℕ × E) → ℕ → Type 0) (
         λ i k n is none sw. grind (arith, h.clear i k n, bare) in
         search (h.lent, h.lent_mark, h.kept, h.found, h.once, h.gone)
 
-    pub mark_law : (l n j : ℕ) → n < 256 → has n (w.hands j l) ≡ true → Handed lends out keeper (marked_in l n j w)
+    pub mark_law : (l n j : ℕ) → n < 256 → hand_has n (w.hands j l) ≡ true → Handed lends out keeper (marked_in l n j w)
     mark_law l n j small in_hand =
-        let u : World E = marked_in l n j w in
-        let left : List ℕ = without n (w.hands j l) in
-        let nobody : (i : ℕ) → has n (u.hands i l) ≡ false = λ i. grind (arith, h.kept i l n, h.kept j l n, gone_from n (w.hands j l)) in
+        let u : Locks E = marked_in l n j w in
+        let left : List ℕ = hand_without n (w.hands j l) in
+        let nobody : (i : ℕ) → hand_has n (u.hands i l) ≡ false = λ i. grind (arith, h.kept i l n, h.kept j l n, gone_from n (w.hands j l)) in
         let now : is_marked n (u.marks l) ≡ true = grind (arith, marks_it (w.marks l) n small) in
         handed u (cases l n (Number u) record {
-          lent = λ i t. absurd (not_both (has n (u.hands i l)) t (nobody i));
+          lent = λ i t. absurd (not_both (hand_has n (u.hands i l)) t (nobody i));
           lent_mark = λ _. h.lent j l n in_hand;
-          kept = λ i t. absurd (not_both (has n (u.hands i l)) t (nobody i));
+          kept = λ i t. absurd (not_both (hand_has n (u.hands i l)) t (nobody i));
           found = λ _. inr (inl now);
           once = λ i _ _. nobody i;
-          gone = λ i o s. absurd (not_both (has n (w.hands j l)) in_hand ((h.gone i l n o s).1 j));
+          gone = λ i o s. absurd (not_both (hand_has n (w.hands j l)) in_hand ((h.gone i l n o s).1 j));
           clear = λ i _ none _. let no : None ≡ Some j = sym none ∙ h.kept j l n in_hand in absurd (cc no);
         }
         (λ k b ne. stays w u k b refl refl refl
@@ -134,13 +133,13 @@ module _ {E : Type 0} (lends out : ℕ → List (ℕ × E) → ℕ → Type 0) (
 
     pub sweep_law : (l q j : ℕ) → q < 4 → Handed lends out keeper (swept_in l q j w)
     sweep_law l q j qt =
-        let u : World E = swept_in l q j w in
+        let u : Locks E = swept_in l q j w in
         let words : List (ℕ × ℕ) = w.swept j l ++ (q, w.marks l q) ∷ [] in
-        let swept_more : (b : ℕ) → was_swept b words ≡ (was_swept b (w.swept j l) || (((q == b / 64) && has_bit b (w.marks l q)) || false)) =
-        λ b. list_any-append (λ x. x.0 == b / 64 && has_bit b x.1) (w.swept j l) ((q, w.marks l q) ∷ []) in
+        let swept_more : (b : ℕ) → was_swept b words ≡ (was_swept b (w.swept j l) || (((q == b / 64) && has_mark b (w.marks l q)) || false)) =
+        λ b. list_any-append (λ x. x.0 == b / 64 && has_mark b x.1) (w.swept j l) ((q, w.marks l q) ∷ []) in
         let word_more : (b : ℕ) → is_word_of b words ≡ (is_word_of b (w.swept j l) || ((q == b / 64) || false)) =
         λ b. list_any-append (λ x. x.0 == b / 64) (w.swept j l) ((q, w.marks l q) ∷ []) in
-        let bit : (b : ℕ) → Bool = λ b. (q == b / 64) && has_bit b (w.marks l q) in
+        let bit : (b : ℕ) → Bool = λ b. (q == b / 64) && has_mark b (w.marks l q) in
         let other : (k b : ℕ) → (k ≡ l → b / 64 ≡ q → ⊥) → Number u k b = λ k b ne.
         let off : k ≡ l → (q == b / 64) ≡ false = λ z. ne_eqb q (b / 64) (λ e. ne z (sym e)) in
         stays w u k b refl refl refl (λ _. refl)
@@ -152,8 +151,8 @@ module _ {E : Type 0} (lends out : ℕ → List (ℕ × E) → ℕ → Type 0) (
         let N = number w h l b in
         let clean : is_marked b (u.marks l) ≡ false = ap (is_marked b) (place_here w.marks l l (at_place (w.marks l) q 0) refl) ∙ swept_it (w.marks l) q b e in
         let M : Bool = is_marked b (w.marks l) in
-        let bit_is : bit b ≡ M = ap (λ c. c && has_bit b (w.marks l q)) (eq-eqb q (b / 64) (sym e) ∙ sym (lt-ltb b 256 (omega arith)))
-        ∙ ap (λ (z : ℕ). nat_lt b 256 && has_bit b (w.marks l z)) (sym e) in
+        let bit_is : bit b ≡ M = ap (λ c. c && has_mark b (w.marks l q)) (eq-eqb q (b / 64) (sym e) ∙ sym (lt-ltb b 256 (omega arith)))
+        ∙ ap (λ (z : ℕ). nat_lt b 256 && has_mark b (w.marks l z)) (sym e) in
         let now : was_swept b (u.swept j l) ≡ (was_swept b (w.swept j l) || (M || false)) = ap (was_swept b) (both_here w.swept j l words)
         ∙ (swept_more b ∙ ap (λ c. was_swept b (w.swept j l) || (c || false)) bit_is) in
         let marked : M ≡ true → was_swept b (u.swept j l) ≡ true = λ m. grind (arith, now, m) in
@@ -174,18 +173,18 @@ module _ {E : Type 0} (lends out : ℕ → List (ℕ × E) → ℕ → Type 0) (
 
 -- where an empty list has none out, nothing is in a hand, marked or swept at first
 pub opening_hands : {E : Type 0} (lends out : ℕ → List (ℕ × E) → ℕ → Type 0) (keeper : ℕ → List (ℕ × E) → Option ℕ) → ((l n : ℕ) → out l [] n → ⊥)
-    → Handed lends out keeper opening_world
+    → Handed lends out keeper opening_locks
 opening_hands lends out keeper none_out =
     let unmarked : (n : ℕ) → is_marked n (λ _. 0) ≡ false = λ n. let z = bit_at-zero (n % 64) in grind arith in
     search (arith, none_out, unmarked)
 
 module _ {E : Type 0} (lends out : ℕ → List (ℕ × E) → ℕ → Type 0) (keeper : ℕ → List (ℕ × E) → Option ℕ) (after : ℕ → E → List ℕ → List ℕ)
-    (empties : E → Option ℕ) (l : ℕ) (e : E) (j : ℕ) (w : World E) (h : Handed lends out keeper w)
+    (empties : E → Option ℕ) (l : ℕ) (e : E) (j : ℕ) (w : Locks E) (h : Handed lends out keeper w)
     (sole : (i : ℕ) → i ≢ j → w.swept i l ≡ []) (far : l ≢ 0) where
   abbrev hs : ℕ → E → (ℕ → List ℕ) → ℕ → List ℕ
   hs = hands_after after empties
 
-  abbrev w' : World E
+  abbrev w' : Locks E
   w' = entered hs l j e w
 
   hands_else : (i k : ℕ) → k ≢ l → w'.hands i k ≡ w.hands i k
@@ -195,22 +194,22 @@ module _ {E : Type 0} (lends out : ℕ → List (ℕ × E) → ℕ → Type 0) (
   pub settled : Settles lends out keeper after l e j w → Handed lends out keeper w'
   settled s = handed lends out keeper w' (λ k n. dite (ℕ_discrete k l)
       (λ z. subst (λ (k : ℕ). Number lends out keeper w' k n) (sym z)
-      (subst (λ (q : List (ℕ × E) × List (ℕ × E)). Placed (lends l q.0 n) (out l q.0 n) (keeper l q.1) w'.holder (λ i. has n (w'.hands i l))
+      (subst (λ (q : List (ℕ × E) × List (ℕ × E)). Placed (lends l q.0 n) (out l q.0 n) (keeper l q.1) w'.holder (λ i. hand_has n (w'.hands i l))
       (λ i. was_swept n (w'.swept i l)) (λ i. is_word_of n (w'.swept i l)) (is_marked n (w.marks l)))
       (λ t. (sym (lists_here hs l j e w) t, sym (lists_else hs l j e w 0 (λ q. far (sym q))) t)) record {
-        lent = by (λ i x. has n x ≡ true → lends l (w.told.lists l ++ (j, e) ∷ []) n) (s.lent n) (λ i ne. s.lent_others i n ne);
+        lent = by (λ i x. hand_has n x ≡ true → lends l (w.told.lists l ++ (j, e) ∷ []) n) (s.lent n) (λ i ne. s.lent_others i n ne);
         lent_mark = s.lent_mark n;
-        kept = by (λ i x. has n x ≡ true → keeper l (w.told.lists 0) ≡ Some i) (s.kept n) (λ i _. h.kept i l n);
-        found = λ o. ⊎_elim (λ a. inl (j, ap (has n) (mine_here after empties l j e w) ∙ a))
-            (λ b. ⊎_elim (λ a. inl (a.0, ap (has n) (others hs l j e w a.0 l a.1) ∙ a.2)) (λ m. inr (inl m)) b) (s.found n o);
-        once = by (λ i x. out l (w.told.lists l ++ (j, e) ∷ []) n → is_marked n (w.marks l) ≡ true → has n x ≡ false)
+        kept = by (λ i x. hand_has n x ≡ true → keeper l (w.told.lists 0) ≡ Some i) (s.kept n) (λ i _. h.kept i l n);
+        found = λ o. ⊎_elim (λ a. inl (j, ap (hand_has n) (mine_here after empties l j e w) ∙ a))
+            (λ b. ⊎_elim (λ a. inl (a.0, ap (hand_has n) (others hs l j e w a.0 l a.1) ∙ a.2)) (λ m. inr (inl m)) b) (s.found n o);
+        once = by (λ i x. out l (w.told.lists l ++ (j, e) ∷ []) n → is_marked n (w.marks l) ≡ true → hand_has n x ≡ false)
             (λ o m. (s.once n o m).0) (λ i ne o m. (s.once n o m).1 i ne);
         gone = λ i _ q. absurd (not_both (was_swept n (w'.swept i l)) q (ap (was_swept n) (unswept hs l j e w sole i)));
         clear = λ i _ _ q. absurd (not_both (is_word_of n (w'.swept i l)) q (ap (is_word_of n) (unswept hs l j e w sole i)));
       }))
       (λ ne. stays lends out keeper w w' k n (sym (lists_else hs l j e w k ne)) (sym (lists_else hs l j e w 0 (λ q. far (sym q))))
       (sym (ap (λ b. cond b None w.holder) (ne_eqb l 0 far)))
-      (λ i. ap (has n) (sym (hands_else i k ne))) (λ i. ap (was_swept n) (sym (swept_else hs l j e w i k ne)))
+      (λ i. ap (hand_has n) (sym (hands_else i k ne))) (λ i. ap (was_swept n) (sym (swept_else hs l j e w i k ne)))
       (λ i. ap (is_word_of n) (sym (swept_else hs l j e w i k ne))) refl
       (number lends out keeper w h k n)))
     where
@@ -221,14 +220,14 @@ module _ {E : Type 0} (lends out : ℕ → List (ℕ × E) → ℕ → Type 0) (
 
 -- For values that lend no numbers
 module _ {E : Type 0} (keeper : ℕ → List (ℕ × E) → Option ℕ) where
-  pub unlent : (w : World E) → ((i k n : ℕ) → has n (w.hands i k) ≡ false) → ((k n : ℕ) → is_marked n (w.marks k) ≡ false) → Unlent keeper w
+  pub unlent : (w : Locks E) → ((i k n : ℕ) → hand_has n (w.hands i k) ≡ false) → ((k n : ℕ) → is_marked n (w.marks k) ≡ false) → Unlent keeper w
   unlent w no_hand no_mark = search (arith, no_hand, no_mark)
 
-  pub lends_nothing : (after : ℕ → E → List ℕ → List ℕ) (empties : E → Option ℕ) (l : ℕ) (e : E) (j : ℕ) (w : World E)
+  pub lends_nothing : (after : ℕ → E → List ℕ → List ℕ) (empties : E → Option ℕ) (l : ℕ) (e : E) (j : ℕ) (w : Locks E)
       → ((hand : List ℕ) → after l e hand ≡ hand) → Unlent keeper w → Unlent keeper (entered (hands_after after empties) l j e w)
   lends_nothing after empties l e j w same h =
-      let none : (i k n : ℕ) → has n (w.hands i k) ≡ false = λ i k n. true_or_not (has n (w.hands i k)) (λ q. h.lent i k n q) in
-      let w' : World E = entered (hands_after after empties) l j e w in
-      let mine : (k n : ℕ) → has n (hands_after after empties l e (w.hands j) k) ≡ false = λ k n. grind (arith, none j l n, none j k n, same (w.hands j l)) in
-      unlent w' (λ i k n. every (λ i f. has n (f k) ≡ false) w.hands j (hands_after after empties l e (w.hands j)) (mine k n) (λ i _. none i k n) i)
-      (λ k n. true_or_not (is_marked n (w.marks k)) (λ q. h.lent_mark k n q))
+      let none : (i k n : ℕ) → hand_has n (w.hands i k) ≡ false = λ i k n. not_true (hand_has n (w.hands i k)) (λ q. h.lent i k n q) in
+      let w' : Locks E = entered (hands_after after empties) l j e w in
+      let mine : (k n : ℕ) → hand_has n (hands_after after empties l e (w.hands j) k) ≡ false = λ k n. grind (arith, none j l n, none j k n, same (w.hands j l)) in
+      unlent w' (λ i k n. every (λ i f. hand_has n (f k) ≡ false) w.hands j (hands_after after empties l e (w.hands j)) (mine k n) (λ i _. none i k n) i)
+      (λ k n. not_true (is_marked n (w.marks k)) (λ q. h.lent_mark k n q))

@@ -6,10 +6,6 @@ use mathlib.Core.Path.{Path}
 use native.Mathlib.Decide.{ℕ_discrete}
 use Rattle.kd_hands.specs.Lists.{at_place, is_at}
 
-pub true_or_not : (b : Bool) → (b ≡ true → ⊥) → b ≡ false
-true_or_not true h = absurd (h refl)
-true_or_not false h = refl
-
 pub not_both : (b : Bool) → b ≡ true → b ≡ false → ⊥
 not_both b t f = let no : true ≡ false = sym t ∙ f in cc
 

@@ -1,4 +1,5 @@
--- The entries of one pass, numbers in hands, marks and sweeps, and functions that differ at one place.
+-- The entries of one pass, numbers in hands, marks and sweeps, and functions that differ at one
+-- place.
 use Rattle.std.specs.Prelude.{ℕ, ◌/◌, ◌%◌, ◌==◌, nat_lt, ◌&&◌, Bool, false, not, cond, List, map, filter, Option, Some, None}
 use Rattle.std.specs.Int.{bit_at}
 use Rattle.std.specs.List.{list_any, range_with_len}
@@ -8,24 +9,24 @@ abbrev pub made_by : {E : Type 0} → ℕ → List (ℕ × E) → List (ℕ × E
 made_by j list = filter (λ x. x.0 == j) list
 
 -- the number is in the hand
-abbrev pub has : ℕ → List ℕ → Bool
-has n hand = list_any (λ x. x == n) hand
+abbrev pub hand_has : ℕ → List ℕ → Bool
+hand_has n hand = list_any (λ x. x == n) hand
 
 -- the hand without the number
-abbrev pub without : ℕ → List ℕ → List ℕ
-without n hand = filter (λ x. not (x == n)) hand
+abbrev pub hand_without : ℕ → List ℕ → List ℕ
+hand_without n hand = filter (λ x. not (x == n)) hand
 
--- the bit of the number n in its word: the word n / 64 has the bits of 64 numbers
-abbrev pub has_bit : ℕ → ℕ → Bool
-has_bit n word = bit_at word (n % 64) == 1
+-- the word has the mark of the number n: the word n / 64 has the bits of 64 numbers
+abbrev pub has_mark : ℕ → ℕ → Bool
+has_mark n word = bit_at word (n % 64) == 1
 
 -- the number, one of 256, is marked in the words of a lock
 abbrev pub is_marked : ℕ → (ℕ → ℕ) → Bool
-is_marked n words = nat_lt n 256 && has_bit n (words (n / 64))
+is_marked n words = nat_lt n 256 && has_mark n (words (n / 64))
 
 -- the number is in a word that was swept
 abbrev pub was_swept : ℕ → List (ℕ × ℕ) → Bool
-was_swept n words = list_any (λ w. w.0 == n / 64 && has_bit n w.1) words
+was_swept n words = list_any (λ w. w.0 == n / 64 && has_mark n w.1) words
 
 -- the word of the number was swept
 abbrev pub is_word_of : ℕ → List (ℕ × ℕ) → Bool

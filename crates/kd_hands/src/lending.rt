@@ -12,7 +12,8 @@ pub trait Lending {
     /// Which of these it has out.
     ghost out: { ℕ → List (ℕ × Self.Entry) → ℕ → Type 0 };
 
-    /// Of a lock and the list of lock 0: the one pass that may have numbers of that lock in its hand.
+    /// Of a lock and the list of lock 0: the one pass that may have numbers of that lock in its
+    /// hand.
     ghost keeper: { ℕ → List (ℕ × Self.Entry) → Option ℕ };
 
     /// The hand of a lock after its holder made this entry on it.

@@ -3,7 +3,8 @@ use std::collections::LinkedList;
 
 /// What a pass knows of one lock.
 pub struct Part<E> {
-    /// The lock's list as far as the pass has seen it: each entry with the number of the pass that made it.
+    /// The lock's list as far as the pass has seen it: each entry with the number of the pass that
+    /// made it.
     pub seen: LinkedList<(u64, E)>,
     /// The entries that the pass made itself.
     pub own: LinkedList<(u64, E)>,
@@ -21,7 +22,8 @@ pub struct View<E> {
     pub parts: LinkedList<Part<E>>,
     /// For each lock the numbers that the pass has in its hand.
     pub hands: LinkedList<LinkedList<u64>>,
-    /// The entries that it made on other locks since it took lock 0, each with its lock. Empty while it doesn't hold lock 0.
+    /// The entries that it made on other locks since it took lock 0, each with its lock. Empty
+    /// while it doesn't hold lock 0.
     pub opened: LinkedList<(u64, u64, E)>,
     /// How many turns it has taken.
     pub turns: u64,

@@ -1,9 +1,10 @@
 -- What items tell is read again.
-use Rattle.std.proofs.Common.{◌≡◌, ℕ, ◌+◌, ◌*◌, ◌<◌, ◌≤◌, ◌^◌, Bool, true, false, List, [], ◌∷◌, ◌++◌, length, take, drop, map, replicate, Option, Some, None, Result, Ok, Err, refl, sym, ap, ◌∙◌, arith, append_assoc, length-append, IfSome, ◌⊎◌, inl, inr}
+use Rattle.std.proofs.Common.{◌≡◌, ℕ, ◌+◌, ◌<◌, ◌≤◌, ◌^◌, Bool, true, false, List, [], ◌∷◌, ◌++◌, length, take, drop, map, replicate, Option, Some, None, Result, Ok, Err, refl, sym, ap, ◌∙◌, arith, append_assoc, length-append, IfSome, inl, inr}
 use Rattle.std.specs.List.{sum_by, AllByRecursion}
 use Rattle.std.proofs.lemmas.Bool.{lt-ltb, le-ltb, eq-eqb}
 use Rattle.std.proofs.lemmas.List.{drop_at, take_at, drop-drop, append-nil, length-replicate, take-append-drop, length-take-le}
 use Rattle.std.proofs.lemmas.List.Sums.{sum_by-cons, sum_by-append}
+use Rattle.kd_model.proofs.Truth.{option_cases}
 use Rattle.kd_types.specs.declared.creds.Creds.{Creds}
 use Rattle.kd_types.specs.declared.reply_error.ReplyError.{ReplyError}
 use Rattle.kd_types.specs.declared.reply_error.ReplyError.TheVariants.{Bad}
@@ -11,13 +12,14 @@ use Rattle.kd_item.specs.Spelling.{Entry, word, number, padding, spelling, words
 use Rattle.kd_item.specs.Reading.{placed}
 use Rattle.kd_item.proofs.Words.{length-word, word_again}
 use Rattle.kd_item.proofs.Zeros.{zeros_pass}
+use Rattle.kd_item.proofs.Sizes.{length-body}
 use Rattle.kd_image.specs.declared.message.SealedRange.{SealedRange}
 use Rattle.kd_image.specs.Items.{flag, padded_length, item, maybe, creds_item, owned_item, description_item, moment_item, name_item, off_item, off_items, shared_item, with_range, begins, Contents, items, rising}
 use Rattle.kd_image.specs.Images.{padded, laid}
 use Rattle.kd_image.specs.Said.{IsTold, IsWord, IsText}
 use Rattle.kd_image.specs.Reading.{blank, with_item, with_creds, with_owned, with_description, with_moment, with_name, with_off, with_shared, read_on, payload_at, payloads_from}
 use Rattle.kd_image.proofs.Rising.{rising_front}
-use Rattle.kd_image.proofs.Lengths.{length-words, length-padded}
+use Rattle.kd_image.proofs.Lengths.{length-padded}
 use Rattle.kd_image.proofs.Written.{offs_behind, length-off_items}
 
 -- the numbers in front of a body
@@ -30,9 +32,6 @@ behind_word n ns text = ap (drop 8) (append_assoc (word n) (words ns) text) ∙ 
 pub behind_next : (i n : ℕ) (bytes ns text : List ℕ) → drop i bytes ≡ words (n ∷ ns) ++ text → drop (i + 8) bytes ≡ words ns ++ text
 behind_next i n bytes ns text e = sym (drop-drop 8 i bytes) ∙ ap (drop 8) e ∙ behind_word n ns text
 
-pub length_body : (ns text : List ℕ) → length (words ns ++ text) ≡ 8 * length ns + length text
-length_body ns text = omega (arith, length-append (words ns) text, length-words ns)
-
 -- contents by their parts
 abbrev pub said : Option Creds → List (List ℕ) → Option (List ℕ) → Option ℕ → Option (List ℕ) → List ℕ → Option SealedRange → Contents
 said x ns d m n ls r = record { creds = x; names = ns; description = d; moment = m; name = n; lengths = ls; range = r }
@@ -41,10 +40,6 @@ said x ns d m n ls r = record { creds = x; names = ns; description = d; moment =
 abbrev pub takes : ℕ → Contents → List Entry → Option Contents
 takes size c [] = Some c
 takes size c (e ∷ es) = elim (with_item size c e) [ None ↦ None | Some d ↦ takes size d es ]
-
-pub option_cases : {A : Type 0} (o : Option A) → (o ≡ None) ⊎ ((x : A) × (o ≡ Some x))
-option_cases None = inl refl
-option_cases (Some x) = inr (x, refl)
 
 abbrev pub then_takes : ℕ → List Entry → Option Contents → Option Contents
 then_takes size es o = elim o [ None ↦ None | Some d ↦ takes size d es ]
@@ -69,14 +64,14 @@ creds_parts : (size uid gid : ℕ) (p : Bool) → uid < 2 ^ 32 → gid < 2 ^ 32
 unfolding with_item with_creds
 creds_parts size uid gid true u g =
     let body : List ℕ = words (uid ∷ gid ∷ 1 ∷ []) ++ [] in
-    let len : length body ≡ 24 = length_body (uid ∷ gid ∷ 1 ∷ []) [] in
+    let len : length body ≡ 24 = length-body (uid ∷ gid ∷ 1 ∷ []) [] in
     let first : number body ≡ uid = number_words uid (gid ∷ 1 ∷ []) [] (omega arith) in
     let second : number (drop 8 body) ≡ gid = ap number (behind_word uid (gid ∷ 1 ∷ []) []) ∙ number_words gid (1 ∷ []) [] (omega arith) in
     let third : number (drop 16 body) ≡ 1 = ap number (behind_next 8 gid body (1 ∷ []) [] (behind_word uid (gid ∷ 1 ∷ []) [])) ∙ number_words 1 [] [] (omega arith) in
     rw (len, first, second, third, lt-ltb uid (2 ^ 32) u, lt-ltb gid (2 ^ 32) g) refl
 creds_parts size uid gid false u g =
     let body : List ℕ = words (uid ∷ gid ∷ 0 ∷ []) ++ [] in
-    let len : length body ≡ 24 = length_body (uid ∷ gid ∷ 0 ∷ []) [] in
+    let len : length body ≡ 24 = length-body (uid ∷ gid ∷ 0 ∷ []) [] in
     let first : number body ≡ uid = number_words uid (gid ∷ 0 ∷ []) [] (omega arith) in
     let second : number (drop 8 body) ≡ gid = ap number (behind_word uid (gid ∷ 0 ∷ []) []) ∙ number_words gid (0 ∷ []) [] (omega arith) in
     let third : number (drop 16 body) ≡ 0 = ap number (behind_next 8 gid body (0 ∷ []) [] (behind_word uid (gid ∷ 0 ∷ []) [])) ∙ number_words 0 [] [] (omega arith) in
@@ -109,7 +104,7 @@ takes_description size x ns (Some t) h = ap (then_takes size []) (takes_text siz
 
 takes_time : (size : ℕ) (x : Option Creds) (ns : List (List ℕ)) (d : Option (List ℕ)) (m : ℕ) → IsWord m → with_item size (said x ns d None None [] None) (moment_item m) ≡ Some (said x ns d (Some m) None [] None)
 unfolding with_item with_moment
-takes_time size x ns d m lt = rw (length_body (m ∷ []) [], number_words m [] [] lt) refl
+takes_time size x ns d m lt = rw (length-body (m ∷ []) [], number_words m [] [] lt) refl
 
 pub takes_moment : (size : ℕ) (x : Option Creds) (ns : List (List ℕ)) (d : Option (List ℕ)) (m : Option ℕ) → IfSome m IsWord → takes size (said x ns d None None [] None) (maybe moment_item m) ≡ Some (said x ns d m None [] None)
 takes_moment size x ns d None h = refl
@@ -130,7 +125,7 @@ unfolding with_item with_off
 takes_off size x ns d m n r before l few small fits =
     let at : ℕ = begins size before in
     let body : List ℕ = words (l ∷ at ∷ []) ++ [] in
-    let len : length body ≡ 16 = length_body (l ∷ at ∷ []) [] in
+    let len : length body ≡ 16 = length-body (l ∷ at ∷ []) [] in
     let first : number body ≡ l = number_words l (at ∷ []) [] small in
     let second : number (drop 8 body) ≡ at = ap number (behind_word l (at ∷ []) []) ∙ number_words at [] [] fits in
     rw (len, first, second, lt-ltb (length before) 16 few, eq-eqb at at refl) refl
@@ -154,7 +149,7 @@ takes_shared : (size : ℕ) (x : Option Creds) (ns : List (List ℕ)) (d : Optio
 unfolding with_item with_shared
 takes_shared size x ns d m n before place start len is s l =
     let body : List ℕ = words (start ∷ len ∷ []) ++ [] in
-    let all : length body ≡ 16 = length_body (start ∷ len ∷ []) [] in
+    let all : length body ≡ 16 = length-body (start ∷ len ∷ []) [] in
     let first : number body ≡ start = number_words start (len ∷ []) [] s in
     let second : number (drop 8 body) ≡ len = ap number (behind_word start (len ∷ []) []) ∙ number_words len [] [] l in
     rw (all, first, second, is) refl

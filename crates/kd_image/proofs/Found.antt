@@ -8,13 +8,14 @@ use Rattle.std.proofs.lemmas.Int.{of_z-to_z}
 use Rattle.std.proofs.lemmas.Option.{cond_some}
 use Rattle.std.proofs.lemmas.Bool.{ltb-false, eqb-true, and_parts, not-false, cases_Bool}
 use Rattle.std.proofs.lemmas.List.{append-nil, drop-drop, take-append-drop, length-take-le, drop-append-le}
+use Rattle.kd_model.proofs.Truth.{option_cases, same_some, let_through}
 use Rattle.kd_types.specs.Flags.{has_only}
 use Rattle.kd_types.specs.Words.{is_empty}
 use Rattle.kd_types.specs.declared.reply_error.ReplyError.{ReplyError}
 use Rattle.kd_types.specs.declared.reply_error.ReplyError.TheVariants.{Bad}
 use Rattle.kd_item.specs.Spelling.{Entry, number, padding, spelling, spellings, words}
 use Rattle.kd_item.specs.Reading.{item_at, are_zeros, split}
-use Rattle.kd_item.proofs.Words.{IsBytes, IsBytes-drop, IsBytes-take, number_fits}
+use Rattle.kd_item.proofs.Words.{IsBytes, IsBytes-drop, IsBytes-take, IsBytes-front, number_fits}
 use Rattle.kd_item.proofs.Zeros.{zeros_back}
 use Rattle.kd_item.proofs.Splits.{split_whole, item_takes}
 use Rattle.kd_image.specs.declared.message.Message.{Message}
@@ -25,17 +26,16 @@ use Rattle.kd_image.specs.declared.header.Header.{Header}
 use Rattle.kd_image.specs.declared.image.Image.{Image}
 use Rattle.kd_image.specs.Items.{padded_length, begins, Contents, contents, items}
 use Rattle.kd_image.specs.Images.{padded, laid, header, front, front_length, image, notice_item, notice_destination, notice_last, notice_image}
-use Rattle.kd_image.specs.Said.{Origin, sent, told, IsSent, IsTold, IsNotice, IsSound, IsWord, IsText, bytes_of, value_of}
+use Rattle.kd_image.specs.Said.{Origin, sent, told, IsSent, IsTold, IsNotice, IsSound, IsWord, IsText, origin_bytes, image_of_origin}
 use Rattle.kd_image.specs.Reading.{blank, header_break, header_of, contents_in, payload_at, payloads_from, id_in, owners_in, notice_of, notice_in, is_header_of, message_reading, message_value, notice_reading, notice_value, behind_header, reading}
 use Rattle.kd_image.proofs.Lengths.{length-items, length-laid}
-use Rattle.kd_image.proofs.Again.{option_cases}
-use Rattle.kd_image.proofs.Sound.{passed, ok_is, some_is, empty_is, bytes_front, body_bytes, number_more, one_number, two_numbers, SoFar, read_told}
+use Rattle.kd_image.proofs.Sound.{ok_is, empty_is, front_body, number_more, one_number, two_numbers, SoFar, read_told}
 
 -- a payload that was read stands there with its zeros
 payload_is : (n : ℕ) (bytes : List ℕ) (x : List ℕ × List ℕ) → payload_at n bytes ≡ Some x → (length x.0 ≡ n) × (bytes ≡ padded x.0 ++ x.1)
 unfolding payload_at
 payload_is n bytes x is =
-    let a = passed (ltb (length bytes) (padded_length n)) _ x is in
+    let a = let_through (ltb (length bytes) (padded_length n)) _ x is in
     let long : n + padding n ≤ length bytes = ltb-false (length bytes) (padded_length n) a.0 in
     let fill : List ℕ = take (padding n) (drop n bytes) in
     let b = cond_some (are_zeros fill) (take n bytes, drop (padded_length n) bytes) x a.1 in
@@ -145,7 +145,7 @@ unfolding contents_in
 contents_found size area c fits is =
     let es : List Entry = (split area).0 in
     let whole = split_whole area fits in
-    let spelled : IsBytes (spellings es) = bytes_front (spellings es) (split area).1 (subst IsBytes whole.0 fits) in
+    let spelled : IsBytes (spellings es) = IsBytes-front (spellings es) (split area).1 (subst IsBytes whole.0 fits) in
     let none : SoFar blank = record { creds = tt; names = tt; order = refl; description = tt; moment = tt; name = tt; few = omega arith; range = tt } in
     let t = read_told size 64 blank c es (split area).1 spelled none is in
     (whole.0 ∙ ap (λ (l : List ℕ). spellings es ++ l) t.ended ∙ append-nil (spellings es) ∙ ap spellings (sym t.all), t.told)
@@ -164,8 +164,8 @@ same_contents h c ps e = ap (λ (l : List ℕ). record c { lengths = l }) e
 record Made (bytes : List ℕ) (i : Image) : Type 0 where
   pub origin : Origin
   pub sound : IsSound origin
-  pub value : i ≡ value_of origin
-  pub bytes_are : bytes ≡ bytes_of origin
+  pub value : i ≡ image_of_origin origin
+  pub bytes_are : bytes ≡ origin_bytes origin
 
 result_cases : {A E : Type 0} (r : Result A E) → ((e : E) × (r ≡ Err e)) ⊎ ((x : A) × (r ≡ Ok x))
 result_cases (Err e) = inl (e, refl)
@@ -193,7 +193,7 @@ message_made bytes area behind i c ps short fits s p said_is area_is t lengths b
     let told_so : IsTold (front_length (contents m a)) (contents m a) = subst (λ (k : ℕ). IsTold k (contents m a)) (sym sizes) (subst (IsTold n) (sym same) tells) in
     let back : cast_unsigned w64 (cast_signed w64 h.priority) ≡ h.priority = of_z-to_z w64 h.priority (word_fits 16) in
     let sound : IsSent m h.source h.dst a = record { flags = s.flags; priority = sfits_to_z {w = w64} {n = h.priority} (omega (arith, word_fits 16)); source = word_fits 32; dst = word_fits 24; payload_type = word_fits 40; cookie = word_fits 48; last = word_fits 56; items = told_so } in
-    let value : message_value h c ps ≡ value_of (sent m h.source h.dst a) = ap (λ (k : ℕ). record (message_value h c ps) { size = k }) (sym sizes) in
+    let value : message_value h c ps ≡ image_of_origin (sent m h.source h.dst a) = ap (λ (k : ℕ). record (message_value h c ps) { size = k }) (sym sizes) in
     let shape : Contents → ℕ → ℕ → List ℕ = λ k z q. words (z ∷ h.flags ∷ q ∷ h.dst ∷ h.source ∷ h.payload_type ∷ h.cookie ∷ h.last ∷ []) ++ spellings (items z k) ++ laid ps in
     let q : ℕ = cast_unsigned w64 (cast_signed w64 h.priority) in
     let built : image m h.source h.dst a ≡ shape c n h.priority =
@@ -243,7 +243,7 @@ id_is body id fits is =
 owners_are : (body : List ℕ) (o : ℕ × ℕ × List ℕ) → IsBytes body → owners_in body ≡ Some o → (body ≡ words (o.0 ∷ o.1 ∷ []) ++ o.2) × IsWord o.0 × IsWord o.1 × IsText o.2
 unfolding owners_in
 owners_are body o fits is =
-    let a = passed (ltb (length body) 16) _ o is in
+    let a = let_through (ltb (length body) 16) _ o is in
     let long : 16 ≤ length body = ltb-false (length body) 16 a.0 in
     let b = cond_some (is_utf8 (drop 16 body)) (number body, number (drop 8 body), drop 16 body) o a.1 in
     subst (λ (k : ℕ × ℕ × List ℕ). (body ≡ words (k.0 ∷ k.1 ∷ []) ++ k.2) × IsWord k.0 × IsWord k.1 × IsText k.2) b.1
@@ -256,7 +256,7 @@ record Says (e : Entry) (n : Notice) : Type 0 where
 
 map_some : {A B : Type 0} (f : A → B) (o : Option A) (y : B) → option_map f o ≡ Some y → (x : A) × (o ≡ Some x) × (f x ≡ y)
 map_some f None y e = absurd cc
-map_some f (Some x) y e = (x, refl, some_is (f x) y e)
+map_some f (Some x) y e = (x, refl, same_some (f x) y e)
 
 says : (last : ℕ) (e : Entry) (n : Notice) → IsBytes e.body → IsWord last → notice_of last e ≡ Some n → Says e n
 unfolding notice_of
@@ -341,7 +341,7 @@ own_header_is h n e =
       last = eqb-true h.last (notice_last n) g.1;
     }
 
-says_value : (h : Header) (n : Notice) → OwnHeader h n → length (notice_image n h.dst) ≡ h.size → notice_value h n ≡ value_of (told n h.dst)
+says_value : (h : Header) (n : Notice) → OwnHeader h n → length (notice_image n h.dst) ≡ h.size → notice_value h n ≡ image_of_origin (told n h.dst)
 says_value h n own total = rw (total, own.flags, own.priority, own.source, own.payload_type, own.cookie, ← own.dst, own.last) refl
 
 notice_made : (bytes area behind rest : List ℕ) (i : Image) (n : Notice) (e : Entry) → length bytes < 2 ^ 64 → IsBytes bytes → Parts bytes area behind
@@ -360,7 +360,7 @@ notice_made bytes area behind rest i n e short fits p area_is s own is =
     let built : notice_image n h.dst ≡ words (number bytes ∷ h.flags ∷ h.priority ∷ h.dst ∷ h.source ∷ h.payload_type ∷ h.cookie ∷ h.last ∷ []) ++ it = rw (size, own.flags, own.priority, own.source, own.payload_type, own.cookie, ← own.dst, own.last) refl in
     let bytes_are : bytes ≡ notice_image n h.dst = p.whole ∙ ap (λ (l : List ℕ). words (number bytes ∷ h.flags ∷ h.priority ∷ h.dst ∷ h.source ∷ h.payload_type ∷ h.cookie ∷ h.last ∷ []) ++ l) item_is_all ∙ sym built in
     let total : length (notice_image n h.dst) ≡ number bytes = ap length (sym bytes_are) ∙ omega (arith, p.total, ap length no_behind) in
-    let value : notice_value h n ≡ value_of (told n h.dst) = says_value h n own total in
+    let value : notice_value h n ≡ image_of_origin (told n h.dst) = says_value h n own total in
     record {
       origin = told n h.dst;
       sound = (s.sound, number_fits (drop 24 bytes) (IsBytes-drop 24 bytes fits), omega (arith, p.total));
@@ -386,7 +386,7 @@ notice_found bytes area behind i x short fits p found is =
                 let n : Notice = some.0 in
                 let chosen = cond_some (is_header_of h n) (n, y.1) x (sym (ap (told_by y) some.1) ∙ next) in
                 let t = item_takes area y p.area_bytes first.1 in
-                let body : IsBytes y.0.body = body_bytes y.0 y.1 (subst IsBytes t.parts p.area_bytes) in
+                let body : IsBytes y.0.body = front_body y.0 y.1 (subst IsBytes t.parts p.area_bytes) in
                 let s : Says y.0 n = says h.last y.0 n body (number_fits (drop 56 bytes) (IsBytes-drop 56 bytes fits)) some.1 in
                 let read : notice_reading h n y.1 behind ≡ Ok i = ap (λ (z : Notice × List ℕ). notice_reading h z.0 z.1 behind) chosen.1 ∙ is in
                 notice_made bytes area behind y.1 i n y.0 short fits p t.parts s (own_header_is h n chosen.0) read
@@ -394,7 +394,7 @@ notice_found bytes area behind i x short fits p found is =
     ]
 
 -- whatever was read was made so
-pub found : (bytes : List ℕ) (i : Image) → length bytes < 2 ^ 64 → IsBytes bytes → reading bytes ≡ Ok i → (o : Origin) × IsSound o × (i ≡ value_of o) × (bytes ≡ bytes_of o)
+pub found : (bytes : List ℕ) (i : Image) → length bytes < 2 ^ 64 → IsBytes bytes → reading bytes ≡ Ok i → (o : Origin) × IsSound o × (i ≡ image_of_origin o) × (bytes ≡ origin_bytes o)
 unfolding reading behind_header
 found bytes i short fits is =
     let area : List ℕ = drop 64 (take (number bytes) bytes) in

@@ -5,8 +5,10 @@ use Rattle.std.specs.Int.{cast_unsigned, w64}
 use Rattle.std.proofs.lemmas.List.{length-replicate, take-append-drop, take_more, map_more, take-map}
 use Rattle.std.proofs.lemmas.List.Sums.{sum_by-cons}
 use Rattle.std.proofs.lemmas.Grind.{flat_map-append}
-use Rattle.kd_item.specs.Spelling.{Entry, padding, word, spelling, spellings, words}
-use Rattle.kd_item.proofs.Words.{length-word}
+use Rattle.kd_item.specs.Spelling.{Entry, padding, spelling, spellings, words}
+pub use Rattle.kd_item.proofs.Words.{length-words}
+use Rattle.kd_item.proofs.Sizes as sizes
+use Rattle.kd_item.proofs.Sizes.{length-body}
 use Rattle.kd_types.specs.declared.creds.Creds.{Creds}
 use Rattle.kd_image.specs.declared.message.SealedRange.{SealedRange}
 use Rattle.kd_image.specs.declared.message.Message.{Message}
@@ -14,19 +16,13 @@ use Rattle.kd_image.specs.declared.attached.Attached.{Attached}
 use Rattle.kd_image.specs.Items.{flag, padded_length, item, maybe, creds_item, owned_item, description_item, moment_item, name_item, off_item, off_items, shared_item, with_range, Contents, contents, attached_items, items, begins}
 use Rattle.kd_image.specs.Images.{padded, laid, header, front_length, front, image, image_length}
 
-pub length-words : (ns : List ℕ) → length (words ns) ≡ 8 * length ns
-length-words [] = refl
-length-words (n ∷ ns) = omega (arith, length-append (word n) (words ns), length-word n, length-words ns)
-
+-- an item, filled up
 pub length-spelling : (e : Entry) → length (spelling e) ≡ padded_length (16 + length e.body)
-length-spelling e =
-    let zs : List ℕ = replicate (padding (16 + length e.body)) 0 in
-    let fill : length zs ≡ padding (16 + length e.body) = length-replicate (padding (16 + length e.body)) 0 in
-    omega (arith, fill, length-append (word (16 + length e.body) ++ word e.kind ++ e.body) zs, length-append (word (16 + length e.body) ++ word e.kind) e.body, length-append (word (16 + length e.body)) (word e.kind), length-word (16 + length e.body), length-word e.kind)
+length-spelling e = sizes.length-spelling e
 
 pub length-item : (kind : ℕ) (ns text : List ℕ) → length (spelling (item kind ns text)) ≡ padded_length (16 + 8 * length ns + length text)
 length-item kind ns text =
-    let body : length (words ns ++ text) ≡ 8 * length ns + length text = omega (arith, length-append (words ns) text, length-words ns) in
+    let body : length (words ns ++ text) ≡ 8 * length ns + length text = length-body ns text in
     let total : 16 + length (words ns ++ text) ≡ 16 + 8 * length ns + length text = omega arith in
     length-spelling (item kind ns text) ∙ ap padded_length total
 

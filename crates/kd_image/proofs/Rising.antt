@@ -1,18 +1,10 @@
 -- Names in byte order.
-use Rattle.std.proofs.Common.{◌≡◌, ℕ, zero, suc, Bool, true, ◌+◌, ◌-◌, List, [], ◌∷◌, ◌++◌, length, Some, refl, sym, ap, ◌∙◌, arith}
-use Rattle.std.specs.Ordering.{is_lt, nat_cmp, is_some_and}
-use Rattle.std.specs.Cmp.Lexicographic.{slice_partial_cmp}
+use Rattle.std.proofs.Common.{◌≡◌, ℕ, zero, suc, true, ◌+◌, ◌-◌, List, [], ◌∷◌, ◌++◌, length, Some, refl, sym, ap, ◌∙◌, arith}
 use Rattle.std.specs.List.{slice_get}
-use Rattle.std.proofs.lemmas.Cmp.{same_from_slice_cmp_tested}
 use Rattle.std.proofs.Math.Bool.{and-true}
 use Rattle.std.proofs.lemmas.Bool.{and_parts}
-use Rattle.std.proofs.lemmas.Bool.Decides.{nat_tests}
 use Rattle.kd_model.specs.Words.{text_below}
 use Rattle.kd_image.specs.Items.{rising}
-
--- `<` on slices
-pub less_than : (xs ys : List ℕ) (r : Bool) → r ≡ is_some_and is_lt (slice_partial_cmp (λ x y. Some (nat_cmp x y)) xs ys) → r ≡ text_below xs ys
-less_than xs ys r e = same_from_slice_cmp_tested nat_cmp is_lt text_below refl (λ _ _. refl) (λ _ _. refl) (λ x y xs ys o h. grind (arith, nat_tests)) xs ys r e
 
 rising_behind : (ns : List (List ℕ)) (k : ℕ) (l n : List ℕ) → rising ns ≡ true → k + 1 ≡ length ns → Some l ≡ slice_get ns k → rising (ns ++ n ∷ []) ≡ text_below l n
 rising_behind [] k l n up len is = absurd (omega arith)

@@ -7,10 +7,12 @@ use Rattle.std.specs.Prelude.{bit_and}
 use Rattle.std.proofs.lemmas.Nat.{and_le_r}
 use Rattle.std.proofs.lemmas.Int.{to_z-of_z}
 use Rattle.std.proofs.Math.Facts.{Fits-of_z}
+use Rattle.kd_model.proofs.Truth.{option_cases}
 use Rattle.kd_types.specs.declared.reply_error.ReplyError.{ReplyError}
 use Rattle.kd_types.specs.declared.reply_error.ReplyError.TheVariants.{Bad, OutOfMemory}
 use Rattle.kd_item.specs.Spelling.{Entry, Fits, AreItems, number, padding, spelling, spellings, words}
 use Rattle.kd_item.specs.Reading.{item_at, split, placed}
+use Rattle.kd_item.proofs.Sizes.{length-body, spellings_even}
 use Rattle.kd_item.proofs.OneItem.{item_again}
 use Rattle.kd_item.proofs.Splits.{split_again, none_at_end}
 use Rattle.kd_image.specs.declared.message.Message.{Message}
@@ -21,13 +23,13 @@ use Rattle.kd_image.specs.declared.image.Image.{Image}
 use Rattle.kd_image.specs.Items.{Contents, contents, items}
 use Rattle.kd_image.specs.declared.notice.Notice.TheVariants.{IdAdd, IdRemove, NameAdd, NameRemove, NameChange, ReplyTimeout, ReplyDead}
 use Rattle.kd_image.specs.Images.{notice_item, notice_destination, notice_last, notice_image, laid, header, message_header, front_length, front, image}
-use Rattle.kd_image.specs.Said.{Origin, sent, told, IsSent, IsTold, IsNotice, IsWord, IsText, IsSound, Gives, bytes_of, value_of}
+use Rattle.kd_image.specs.Said.{Origin, sent, told, IsSent, IsTold, IsNotice, IsWord, IsText, IsSound, Gives, origin_bytes, image_of_origin}
 use Rattle.kd_types.specs.Flags.{has_only}
 use Rattle.kd_image.specs.Reading.{blank, read_on, header_break, header_of, with_item, contents_in, id_in, owners_in, is_header_of, notice_of, notice_in, notice_reading, notice_value, message_reading, message_value, behind_header, reading, payloads_from}
 use Rattle.kd_image.proofs.Lengths.{length_cons, length-spelling, length-items, length-header}
 use Rattle.kd_item.proofs.Words.{IsBytes}
 use Rattle.kd_image.proofs.Found.{found}
-use Rattle.kd_image.proofs.Again.{option_cases, then_takes, length_body, number_words, behind_word, behind_next, takes, takes_all, takes_read, payloads_again}
+use Rattle.kd_image.proofs.Again.{then_takes, number_words, behind_word, behind_next, takes, takes_all, takes_read, payloads_again}
 
 -- an item of a message has one of seven kinds
 pub data IsKind : ℕ → Type 0 where
@@ -166,16 +168,9 @@ unfolding header_break
 header_stands bytes size flags priority dst source payload_type cookie last w low high whole known =
     rw (le-ltb (length bytes) 8 (omega arith), w.at0, le-ltb size 64 low, le-ltb (length bytes) size high, whole, w.at8, known) refl
 
-spellings_whole : (es : List Entry) → length (spellings es) % 8 ≡ 0
-spellings_whole [] = refl
-spellings_whole (x ∷ es) =
-    let parts : length (spellings (x ∷ es)) ≡ length (spelling x) + length (spellings es) = length_cons x es in
-    let len : length (spelling x) ≡ 16 + length x.body + (8 - (16 + length x.body) % 8) % 8 = length-spelling x in
-    omega (arith, parts, len, spellings_whole es)
-
 front_whole : (c : Contents) → (64 ≤ front_length c) × (front_length c % 8 ≡ 0)
 unfolding front_length
-front_whole c = (omega arith, omega (arith, spellings_whole (items 0 c)))
+front_whole c = (omega arith, omega (arith, spellings_even (items 0 c)))
 
 front_items : (c : Contents) → 64 + length (spellings (items (front_length c) c)) ≡ front_length c
 unfolding front_length
@@ -220,7 +215,7 @@ flags_fit flags known =
     let small : bit_and flags 7 ≤ 7 = and_le_r flags 7 in
     omega arith
 
-pub message_again : (m : Message) (source dst : ℕ) (a : Attached) → IsSent m source dst a → reading (image m source dst a) ≡ Ok (value_of (sent m source dst a))
+pub message_again : (m : Message) (source dst : ℕ) (a : Attached) → IsSent m source dst a → reading (image m source dst a) ≡ Ok (image_of_origin (sent m source dst a))
 unfolding image front header
 message_again m source dst a t =
     let c : Contents = contents m a in
@@ -248,7 +243,7 @@ message_again m source dst a t =
 -- header and items of what can be sent, with its payloads behind them
 pub built_again : (m : Message) (source dst : ℕ) (a : Attached) (size : ℕ) (bytes : List ℕ) → size ≡ front_length (contents m a)
     → bytes ≡ message_header size m source dst ++ spellings (items size (contents m a)) → IsSent m source dst a
-    → reading (bytes ++ laid m.payloads) ≡ Ok (value_of (sent m source dst a))
+    → reading (bytes ++ laid m.payloads) ≡ Ok (image_of_origin (sent m source dst a))
 unfolding image front
 built_again m source dst a size bytes len is t =
     let whole : bytes ≡ front m source dst a = is ∙ ap (λ (n : ℕ). message_header n m source dst ++ spellings (items n (contents m a))) len in
@@ -259,14 +254,14 @@ owners_again : (old new : ℕ) (name : List ℕ) → IsWord old → IsWord new �
 unfolding owners_in
 owners_again old new name o n text =
     let body : List ℕ = words (old ∷ new ∷ []) ++ name in
-    let len : length body ≡ 16 + length name = length_body (old ∷ new ∷ []) name in
+    let len : length body ≡ 16 + length name = length-body (old ∷ new ∷ []) name in
     let first : number body ≡ old = number_words old (new ∷ []) name o in
     let second : number (drop 8 body) ≡ new = ap number (behind_word old (new ∷ []) name) ∙ number_words new [] name n in
     let third : drop 16 body ≡ name = behind_next 8 new body [] name (behind_word old (new ∷ []) name) in
     rw (le-ltb (length body) 16 (omega arith), third, text, first, second) refl
 
 id_again : (id : ℕ) → IsWord id → id_in (words (id ∷ []) ++ []) ≡ Some id
-id_again id lt = rw (length_body (id ∷ []) [], number_words id [] [] lt) refl
+id_again id lt = rw (length-body (id ∷ []) [], number_words id [] [] lt) refl
 
 notice_told : (n : Notice) → IsNotice n → notice_of (notice_last n) (notice_item n) ≡ Some n
 unfolding notice_of
@@ -329,7 +324,7 @@ notice_behind h n fits is own =
     let go : Option (Notice × List ℕ) → Result Image ReplyError = λ o. elim o [ Some x ↦ notice_reading h x.0 x.1 [] | None ↦ message_reading h (spelling it) [] ] in
     ap go whole
 
-pub notice_again : (n : Notice) (dst : ℕ) → IsNotice n → IsWord dst → IsWord (64 + length (spelling (notice_item n))) → reading (notice_image n dst) ≡ Ok (value_of (told n dst))
+pub notice_again : (n : Notice) (dst : ℕ) → IsNotice n → IsWord dst → IsWord (64 + length (spelling (notice_item n))) → reading (notice_image n dst) ≡ Ok (image_of_origin (told n dst))
 unfolding notice_image notice_header
 notice_again n dst h w short =
     let it : Entry = notice_item n in
@@ -351,21 +346,21 @@ notice_again n dst h w short =
     apart ∙ notice_behind (notice_header size n dst) n fits (notice_told n h) (own_header size n dst) ∙ rw total refl
 
 -- whatever was built reads back as what it was built from
-pub origin_again : (o : Origin) → IsSound o → reading (bytes_of o) ≡ Ok (value_of o)
+pub origin_again : (o : Origin) → IsSound o → reading (origin_bytes o) ≡ Ok (image_of_origin o)
 origin_again (sent m source dst a) h = message_again m source dst a h
 origin_again (told n dst) h = notice_again n dst h.0 h.1 h.2
 
 pub gives : (r : Result Image ReplyError) (bytes : List ℕ) (o : Origin) → IfOk r (λ i. reading bytes ≡ Ok i) → IfErr r (λ e. e ≢ OutOfMemory → reading bytes ≡ Err e)
-    → IsSound o → bytes ≡ bytes_of o → Gives r (value_of o)
+    → IsSound o → bytes ≡ origin_bytes o → Gives r (image_of_origin o)
 gives (Ok i) bytes o read refused sound is =
-    let same : Ok i ≡ Ok (value_of o) = sym read ∙ ap reading is ∙ origin_again o sound in
+    let same : Ok i ≡ Ok (image_of_origin o) = sym read ∙ ap reading is ∙ origin_again o sound in
     cc
 gives (Err OutOfMemory) bytes o read refused sound is = refl
 gives (Err (Bad at)) bytes o read refused sound is =
-    let never : Err (Bad at) ≡ Ok (value_of o) = sym (refused (λ e. absurd cc)) ∙ ap reading is ∙ origin_again o sound in
+    let never : Err (Bad at) ≡ Ok (image_of_origin o) = sym (refused (λ e. absurd cc)) ∙ ap reading is ∙ origin_again o sound in
     absurd cc
 
 -- what was read was made so
-pub found_by : (r : Result Image ReplyError) (bytes : List ℕ) → length bytes < 2 ^ 64 → IsBytes bytes → IfOk r (λ i. reading bytes ≡ Ok i) → IfOk r (λ i. (o : Origin) × IsSound o × (i ≡ value_of o) × (bytes ≡ bytes_of o))
+pub found_by : (r : Result Image ReplyError) (bytes : List ℕ) → length bytes < 2 ^ 64 → IsBytes bytes → IfOk r (λ i. reading bytes ≡ Ok i) → IfOk r (λ i. (o : Origin) × IsSound o × (i ≡ image_of_origin o) × (bytes ≡ origin_bytes o))
 found_by (Ok i) bytes short fits is = found bytes i short fits is
 found_by (Err e) bytes short fits is = is

@@ -1,36 +1,29 @@
 -- What is read as an image is one.
-use Rattle.std.proofs.Common.{◌≡◌, ℕ, zero, suc, ◌+◌, ◌-◌, ◌<◌, ◌≤◌, ◌^◌, Bool, true, false, not, cond, eqb, ltb, ◌&&◌, List, [], ◌∷◌, ◌++◌, length, take, drop, map, replicate, Option, Some, None, is_none, Result, Ok, Err, IfSome, refl, sym, ap, subst, ◌∙◌, arith, append_assoc, length-append, length-drop, inl, inr}
+use Rattle.std.proofs.Common.{◌≡◌, ℕ, zero, suc, ◌+◌, ◌-◌, ◌<◌, ◌≤◌, ◌^◌, true, not, eqb, ltb, ◌&&◌, List, [], ◌∷◌, ◌++◌, length, take, drop, map, Option, Some, None, is_none, Result, Ok, Err, IfSome, refl, sym, ap, subst, ◌∙◌, arith, append_assoc, length-append, length-drop, inl, inr}
 use Rattle.std.specs.List.{AllByRecursion}
 use Rattle.std.specs.Str.{is_utf8}
 use Rattle.std.proofs.lemmas.Bool.{ltb-true, ltb-false, eqb-true, and_parts, not-false, cases_Bool}
-use Rattle.std.proofs.lemmas.List.{append-nil, map_push, take_all, drop_all, take-append-le, drop-append-le, take_at, drop_at, drop-drop, take-append-drop}
+use Rattle.std.proofs.lemmas.List.{append-nil, map_push, take_all, drop_all, take-append-le, drop-append-le, drop-drop, take-append-drop}
+use Rattle.kd_model.proofs.Truth.{option_cases, none_is, same_some, let_through}
+use Rattle.kd_model.proofs.Lists.{all_of_push}
 use Rattle.kd_types.specs.declared.creds.Creds.{Creds}
 use Rattle.kd_types.specs.declared.reply_error.ReplyError.{ReplyError}
 use Rattle.kd_types.specs.declared.reply_error.ReplyError.TheVariants.{Bad}
-use Rattle.kd_types.specs.Words.{is_empty}
-use Rattle.kd_item.specs.Spelling.{Entry, word, number, padding, spelling, spellings, words}
+use Rattle.kd_model.specs.Words.{is_empty}
+use Rattle.kd_item.specs.Spelling.{Entry, word, number, spelling, spellings, words}
 use Rattle.kd_item.specs.Reading.{placed}
-use Rattle.kd_item.proofs.Words.{IsBytes, IsBytes-drop, IsBytes-take, word_front, number_fits}
+use Rattle.kd_item.proofs.Words.{IsBytes, IsBytes-drop, IsBytes-front, IsBytes-behind, word_front, number_fits}
+use Rattle.kd_item.proofs.Sizes.{body_bytes}
 use Rattle.kd_image.specs.declared.message.SealedRange.{SealedRange}
 use Rattle.kd_image.specs.Items.{flag, maybe, creds_item, owned_item, description_item, moment_item, name_item, off_item, off_items, shared_item, with_range, begins, Contents, items, rising}
 use Rattle.kd_image.specs.Said.{IsWord, IsText}
 use Rattle.kd_image.specs.Reading.{no_payload, no_name, no_moment, no_description, no_item, with_creds, with_owned, with_description, with_moment, with_name, with_off, with_shared, with_item, read_on}
 use Rattle.kd_image.proofs.Written.{offs_behind, length-off_items}
-use Rattle.kd_image.proofs.Again.{option_cases, said}
+use Rattle.kd_image.proofs.Again.{said}
 
--- bytes at the front and at the back of bytes
-pub bytes_back : (xs ys : List ℕ) → IsBytes (xs ++ ys) → IsBytes ys
-bytes_back xs ys h = subst IsBytes (drop_at xs ys (length xs) refl) (IsBytes-drop (length xs) (xs ++ ys) h)
-
-pub bytes_front : (xs ys : List ℕ) → IsBytes (xs ++ ys) → IsBytes xs
-bytes_front xs ys h = subst IsBytes (take_at xs ys (length xs) refl) (IsBytes-take (length xs) (xs ++ ys) h)
-
-pub body_bytes : (e : Entry) (rest : List ℕ) → IsBytes (spelling e ++ rest) → IsBytes e.body
-body_bytes e rest h =
-    let zs : List ℕ = replicate (padding (16 + length e.body)) 0 in
-    let whole : IsBytes (spelling e) = bytes_front (spelling e) rest h in
-    let front : IsBytes (word (16 + length e.body) ++ word e.kind ++ e.body) = bytes_front (word (16 + length e.body) ++ word e.kind ++ e.body) zs whole in
-    bytes_back (word (16 + length e.body) ++ word e.kind) e.body front
+-- the body of an item in front of bytes
+pub front_body : (e : Entry) (rest : List ℕ) → IsBytes (spelling e ++ rest) → IsBytes e.body
+front_body e rest h = body_bytes e (IsBytes-front (spelling e) rest h)
 
 -- the number in front, and the bytes behind it
 pub first_word : (bytes : List ℕ) → 8 ≤ length bytes → IsBytes bytes → bytes ≡ word (number bytes) ++ drop 8 bytes
@@ -64,20 +57,8 @@ three_numbers bytes len fits =
     let two : drop 8 bytes ≡ words (number (drop 8 bytes) ∷ number (drop 16 bytes) ∷ []) ++ [] = number_more (drop 8 bytes) (number (drop 16 bytes) ∷ []) (number (drop 8 bytes)) [] refl (omega (arith, length-drop 8 bytes)) (IsBytes-drop 8 bytes fits) (middle ∙ one) in
     number_more bytes (number (drop 8 bytes) ∷ number (drop 16 bytes) ∷ []) (number bytes) [] refl (omega arith) fits two
 
--- a test that let a value through
-pub passed : {A : Type 0} (b : Bool) (r : Option A) (y : A) → cond b None r ≡ Some y → (b ≡ false) × (r ≡ Some y)
-passed true r y e = absurd cc
-passed false r y e = (refl, e)
-
-pub some_is : {A : Type 0} (x y : A) → Some x ≡ Some y → x ≡ y
-some_is x y e = cc
-
 pub ok_is : {A E : Type 0} (x y : A) → ◌≡◌ {A = Result A E} (Ok x) (Ok y) → x ≡ y
 ok_is x y e = cc
-
-none_is : {A : Type 0} (o : Option A) → is_none o ≡ true → o ≡ None
-none_is None e = refl
-none_is (Some x) e = absurd cc
 
 pub empty_is : {A : Type 0} (l : List A) → is_empty l ≡ true → l ≡ []
 empty_is [] e = refl
@@ -148,10 +129,6 @@ bit_again zero lt = refl
 bit_again (suc zero) lt = refl
 bit_again (suc (suc n)) lt = absurd (omega arith)
 
-all_push : {X : Type 0} (P : X → Type 0) (xs : List X) (y : X) → AllByRecursion P xs → P y → AllByRecursion P (xs ++ y ∷ [])
-all_push P [] y h p = (p, tt)
-all_push P (x ∷ xs) y h p = (h.0, all_push P xs y h.1 p)
-
 -- contents by their later parts
 fields : (c : Contents) (d : Option (List ℕ)) (m : Option ℕ) (n : Option (List ℕ)) (ls : List ℕ) (r : Option SealedRange)
     → c.description ≡ d → c.moment ≡ m → c.name ≡ n → c.lengths ≡ ls → c.range ≡ r → c ≡ said c.creds c.names d m n ls r
@@ -173,17 +150,17 @@ spelled_so size c d k l e y ck dl shape ey =
 adds_owned : (size : ℕ) (c d : Contents) (e : Entry) → e.kind ≡ 22 → SoFar c → with_owned c e.body ≡ Some d → Adds size c e d
 unfolding with_owned
 adds_owned size c d e ek s is =
-    let a = passed (not (no_description c)) _ d is in
+    let a = let_through (not (no_description c)) _ d is in
     let q = not_described c (not-false (no_description c) a.0) in
-    let b = passed (not (is_utf8 e.body)) _ d a.1 in
+    let b = let_through (not (is_utf8 e.body)) _ d a.1 in
     let text : is_utf8 e.body ≡ true = not-false (is_utf8 e.body) b.0 in
-    let r = passed (not (rising (c.names ++ e.body ∷ []))) _ d b.1 in
+    let r = let_through (not (rising (c.names ++ e.body ∷ []))) _ d b.1 in
     let up : rising (c.names ++ e.body ∷ []) ≡ true = not-false (rising (c.names ++ e.body ∷ [])) r.0 in
     let new : Contents = record c { names = c.names ++ e.body ∷ [] } in
-    let made : new ≡ d = some_is new d r.1 in
+    let made : new ≡ d = same_some new d r.1 in
     let before : c ≡ said c.creds c.names None None None [] None = fields c None None None [] None q.0 q.1 q.2 q.3 q.4 in
     let after : new ≡ said c.creds (c.names ++ e.body ∷ []) None None None [] None = fields new None None None [] None q.0 q.1 q.2 q.3 q.4 in
-    let told : SoFar new = record { creds = s.creds; names = all_push IsText c.names e.body s.names text; order = up; description = s.description; moment = s.moment; name = s.name; few = s.few; range = s.range } in
+    let told : SoFar new = record { creds = s.creds; names = all_of_push IsText c.names e.body s.names text; order = up; description = s.description; moment = s.moment; name = s.name; few = s.few; range = s.range } in
     subst (Adds size c e) made (record {
       behind = spelled_so size c new (said c.creds c.names None None None [] None) (said c.creds (c.names ++ e.body ∷ []) None None None [] None) e (owned_item e.body) before after (shape_owned size c.creds c.names e.body) (entry_is e 22 e.body ek refl);
       told = told;
@@ -192,14 +169,14 @@ adds_owned size c d e ek s is =
 adds_description : (size : ℕ) (c d : Contents) (e : Entry) → e.kind ≡ 10 → SoFar c → with_description c e.body ≡ Some d → Adds size c e d
 unfolding with_description
 adds_description size c d e ek s is =
-    let a = passed (not (no_description c)) _ d is in
+    let a = let_through (not (no_description c)) _ d is in
     let q = not_described c (not-false (no_description c) a.0) in
-    let b = passed (ltb 255 (length e.body)) _ d a.1 in
+    let b = let_through (ltb 255 (length e.body)) _ d a.1 in
     let short : length e.body ≤ 255 = ltb-false 255 (length e.body) b.0 in
-    let t = passed (not (is_utf8 e.body)) _ d b.1 in
+    let t = let_through (not (is_utf8 e.body)) _ d b.1 in
     let text : is_utf8 e.body ≡ true = not-false (is_utf8 e.body) t.0 in
     let new : Contents = record c { description = Some e.body } in
-    let made : new ≡ d = some_is new d t.1 in
+    let made : new ≡ d = same_some new d t.1 in
     let before : c ≡ said c.creds c.names None None None [] None = fields c None None None [] None q.0 q.1 q.2 q.3 q.4 in
     let after : new ≡ said c.creds c.names (Some e.body) None None [] None = fields new (Some e.body) None None [] None refl q.1 q.2 q.3 q.4 in
     let told : SoFar new = record { creds = s.creds; names = s.names; order = s.order; description = (short, text); moment = s.moment; name = s.name; few = s.few; range = s.range } in
@@ -211,13 +188,13 @@ adds_description size c d e ek s is =
 adds_moment : (size : ℕ) (c d : Contents) (e : Entry) → e.kind ≡ 23 → IsBytes e.body → SoFar c → with_moment c e.body ≡ Some d → Adds size c e d
 unfolding with_moment
 adds_moment size c d e ek fits s is =
-    let a = passed (not (no_moment c)) _ d is in
+    let a = let_through (not (no_moment c)) _ d is in
     let q = not_timed c (not-false (no_moment c) a.0) in
-    let b = passed (not (eqb (length e.body) 8)) _ d a.1 in
+    let b = let_through (not (eqb (length e.body) 8)) _ d a.1 in
     let len : length e.body ≡ 8 = eqb-true (length e.body) 8 (not-false (eqb (length e.body) 8) b.0) in
     let m : ℕ = number e.body in
     let new : Contents = record c { moment = Some m } in
-    let made : new ≡ d = some_is new d b.1 in
+    let made : new ≡ d = same_some new d b.1 in
     let before : c ≡ said c.creds c.names c.description None None [] None = fields c c.description None None [] None refl q.0 q.1 q.2 q.3 in
     let after : new ≡ said c.creds c.names c.description (Some m) None [] None = fields new c.description (Some m) None [] None refl refl q.1 q.2 q.3 in
     let told : SoFar new = record { creds = s.creds; names = s.names; order = s.order; description = s.description; moment = number_fits e.body fits; name = s.name; few = s.few; range = s.range } in
@@ -229,12 +206,12 @@ adds_moment size c d e ek fits s is =
 adds_name : (size : ℕ) (c d : Contents) (e : Entry) → e.kind ≡ 3 → SoFar c → with_name c e.body ≡ Some d → Adds size c e d
 unfolding with_name
 adds_name size c d e ek s is =
-    let a = passed (not (no_name c)) _ d is in
+    let a = let_through (not (no_name c)) _ d is in
     let q = not_named c (not-false (no_name c) a.0) in
-    let b = passed (not (is_utf8 e.body)) _ d a.1 in
+    let b = let_through (not (is_utf8 e.body)) _ d a.1 in
     let text : is_utf8 e.body ≡ true = not-false (is_utf8 e.body) b.0 in
     let new : Contents = record c { name = Some e.body } in
-    let made : new ≡ d = some_is new d b.1 in
+    let made : new ≡ d = same_some new d b.1 in
     let before : c ≡ said c.creds c.names c.description c.moment None [] None = fields c c.description c.moment None [] None refl refl q.0 q.1 q.2 in
     let after : new ≡ said c.creds c.names c.description c.moment (Some e.body) [] None = fields new c.description c.moment (Some e.body) [] None refl refl refl q.1 q.2 in
     let told : SoFar new = record { creds = s.creds; names = s.names; order = s.order; description = s.description; moment = s.moment; name = text; few = s.few; range = s.range } in
@@ -259,15 +236,15 @@ place_further (Some r) ls l h = let le = h.0 in (omega (arith, length-append ls 
 adds_off : (size : ℕ) (c d : Contents) (e : Entry) → e.kind ≡ 19 → IsBytes e.body → SoFar c → with_off size c e.body ≡ Some d → Adds size c e d
 unfolding with_off
 adds_off size c d e ek fits s is =
-    let a = passed (not (eqb (length e.body) 16)) _ d is in
+    let a = let_through (not (eqb (length e.body) 16)) _ d is in
     let len : length e.body ≡ 16 = eqb-true (length e.body) 16 (not-false (eqb (length e.body) 16) a.0) in
-    let b = passed (not (ltb (length c.lengths) 16)) _ d a.1 in
+    let b = let_through (not (ltb (length c.lengths) 16)) _ d a.1 in
     let few : length c.lengths < 16 = ltb-true (length c.lengths) 16 (not-false (ltb (length c.lengths) 16) b.0) in
-    let o = passed (not (eqb (number (drop 8 e.body)) (begins size c.lengths))) _ d b.1 in
+    let o = let_through (not (eqb (number (drop 8 e.body)) (begins size c.lengths))) _ d b.1 in
     let at : number (drop 8 e.body) ≡ begins size c.lengths = eqb-true (number (drop 8 e.body)) (begins size c.lengths) (not-false (eqb (number (drop 8 e.body)) (begins size c.lengths)) o.0) in
     let l : ℕ = number e.body in
     let new : Contents = record c { lengths = c.lengths ++ l ∷ [] } in
-    let made : new ≡ d = some_is new d o.1 in
+    let made : new ≡ d = same_some new d o.1 in
     let none : drop 16 e.body ≡ [] = drop_all 16 e.body (omega arith) in
     let numbers : e.body ≡ words (l ∷ begins size c.lengths ∷ []) ++ [] = two_numbers e.body [] (omega arith) fits none ∙ ap (λ (k : ℕ). words (l ∷ k ∷ []) ++ []) at in
     let y : Entry = off_item size c.lengths l in
@@ -281,13 +258,13 @@ adds_off size c d e ek fits s is =
 adds_shared : (size : ℕ) (c d : Contents) (e : Entry) → e.kind ≡ 20 → IsBytes e.body → SoFar c → with_shared c e.body ≡ Some d → Adds size c e d
 unfolding with_shared
 adds_shared size c d e ek fits s is =
-    let a = passed (not (is_none c.range)) _ d is in
+    let a = let_through (not (is_none c.range)) _ d is in
     let alone : c.range ≡ None = none_is c.range (not-false (is_none c.range) a.0) in
-    let b = passed (not (eqb (length e.body) 16)) _ d a.1 in
+    let b = let_through (not (eqb (length e.body) 16)) _ d a.1 in
     let len : length e.body ≡ 16 = eqb-true (length e.body) 16 (not-false (eqb (length e.body) 16) b.0) in
     let r : SealedRange = record { place = length c.lengths; start = number e.body; length = number (drop 8 e.body) } in
     let new : Contents = record c { range = Some r } in
-    let made : new ≡ d = some_is new d b.1 in
+    let made : new ≡ d = same_some new d b.1 in
     let none : drop 16 e.body ≡ [] = drop_all 16 e.body (omega arith) in
     let numbers : e.body ≡ words (r.start ∷ r.length ∷ []) ++ [] = two_numbers e.body [] (omega arith) fits none in
     let offs : List Entry = off_items size [] c.lengths in
@@ -306,23 +283,23 @@ adds_creds size c d e ek fits s is =
     let n0 : ℕ = number e.body in
     let n1 : ℕ = number (drop 8 e.body) in
     let n2 : ℕ = number (drop 16 e.body) in
-    let a = passed (not (no_item c)) _ d is in
+    let a = let_through (not (no_item c)) _ d is in
     let free = and_parts (is_none c.creds) (is_empty c.names && no_description c) (not-false (no_item c) a.0) in
     let unnamed = and_parts (is_empty c.names) (no_description c) free.1 in
     let q = not_described c unnamed.1 in
     let first : c.creds ≡ None = none_is c.creds free.0 in
     let second : c.names ≡ [] = empty_is c.names unnamed.0 in
-    let b = passed (not (eqb (length e.body) 24)) _ d a.1 in
+    let b = let_through (not (eqb (length e.body) 24)) _ d a.1 in
     let len : length e.body ≡ 24 = eqb-true (length e.body) 24 (not-false (eqb (length e.body) 24) b.0) in
-    let u = passed (not (ltb n0 (2 ^ 32))) _ d b.1 in
-    let g = passed (not (ltb n1 (2 ^ 32))) _ d u.1 in
-    let p = passed (not (ltb n2 2)) _ d g.1 in
+    let u = let_through (not (ltb n0 (2 ^ 32))) _ d b.1 in
+    let g = let_through (not (ltb n1 (2 ^ 32))) _ d u.1 in
+    let p = let_through (not (ltb n2 2)) _ d g.1 in
     let uid : n0 < 2 ^ 32 = ltb-true n0 (2 ^ 32) (not-false (ltb n0 (2 ^ 32)) u.0) in
     let gid : n1 < 2 ^ 32 = ltb-true n1 (2 ^ 32) (not-false (ltb n1 (2 ^ 32)) g.0) in
     let bit : n2 < 2 = ltb-true n2 2 (not-false (ltb n2 2) p.0) in
     let x : Creds = record { uid = n0; gid = n1; privileged = eqb n2 1 } in
     let new : Contents = record c { creds = Some x } in
-    let made : new ≡ d = some_is new d p.1 in
+    let made : new ≡ d = same_some new d p.1 in
     let old : Contents = said None [] None None None [] None in
     let before : c ≡ old = fields c None None None [] None q.0 q.1 q.2 q.3 q.4 ∙ ap (λ (k : Option Creds). said k c.names None None None [] None) first ∙ ap (λ (k : List (List ℕ)). said None k None None None [] None) second in
     let after : new ≡ said (Some x) [] None None None [] None = fields new None None None [] None q.0 q.1 q.2 q.3 q.4 ∙ ap (λ (k : List (List ℕ)). said (Some x) k None None None [] None) second in
@@ -374,7 +351,7 @@ read_told size at c d (x ∷ es) left fits s is =
     elim (option_cases (with_item size c x)) [
       | inl none ↦ let never : Err (Bad at) ≡ Ok d = sym (ap go none) ∙ is in absurd cc
       | inr some ↦
-          let one = adds size c some.0 x (body_bytes x (spellings es) fits) s some.1 in
-          let more = read_told size (at + length (spelling x)) some.0 d es left (bytes_back (spelling x) (spellings es) fits) one.told (sym (ap go some.1) ∙ is) in
+          let one = adds size c some.0 x (front_body x (spellings es) fits) s some.1 in
+          let more = read_told size (at + length (spelling x)) some.0 d es left (IsBytes-behind (spelling x) (spellings es) fits) one.told (sym (ap go some.1) ∙ is) in
           record { ended = more.ended; all = more.all ∙ ap (λ (l : List Entry). l ++ es) one.behind ∙ append_assoc (items size c) (x ∷ []) es; told = more.told }
     ]

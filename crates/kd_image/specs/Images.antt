@@ -20,13 +20,17 @@ laid payloads = flat_map padded payloads
 -- the eight words in front; a negative priority is written as its two's complement
 unfoldable pub header : ℕ → ℕ → ℤ → ℕ → ℕ → ℕ → ℕ → ℕ → List ℕ
 header size flags priority dst source payload_type cookie last =
-    words (size ∷ flags ∷ cast_unsigned w64 priority ∷ dst ∷ source ∷ payload_type ∷ cookie ∷ last ∷ [])
+    words (size ∷ flags ∷ cast_unsigned w64 priority ∷ dst ∷ source ∷ payload_type ∷ cookie ∷ last
+    ∷ [])
 
--- those of a message from this sender to this destination
+-- those of a message from this sender to this destination: whom it is for, also in a copy that a
+-- monitor reads
 abbrev pub message_header : ℕ → Message → ℕ → ℕ → List ℕ
-message_header size m source dst = header size m.flags.0 m.priority dst source m.payload_type m.cookie m.last
+message_header size m source dst =
+    header size m.flags.0 m.priority dst source m.payload_type m.cookie m.last
 
--- how many bytes header and items have; no item's length depends on the numbers in it, so 0 may stand for this very length
+-- how many bytes header and items have; no item's length depends on the numbers in it, so 0 may
+-- stand for this very length
 unfoldable pub front_length : Contents → ℕ
 front_length c = 64 + length (spellings (items 0 c))
 
@@ -73,4 +77,5 @@ notice_last _ = 0
 unfoldable pub notice_image : Notice → ℕ → List ℕ
 notice_image n dst =
     let it : List ℕ = spelling (notice_item n) in
-    words ((64 + length it) ∷ 0 ∷ 0 ∷ notice_destination n dst ∷ 0 ∷ 0 ∷ 0 ∷ notice_last n ∷ []) ++ it
+    words ((64 + length it) ∷ 0 ∷ 0 ∷ notice_destination n dst ∷ 0 ∷ 0 ∷ 0 ∷ notice_last n ∷ [])
+    ++ it

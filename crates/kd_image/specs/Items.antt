@@ -45,8 +45,8 @@ moment_item moment = item 23 (moment ∷ []) []
 abbrev pub name_item : List ℕ → Entry
 name_item name = item 3 [] name
 
--- where the bytes of the payload begin that stands behind payloads of these lengths: behind the header and items,
--- which have so many bytes, and behind each of those payloads with its zeros
+-- where the bytes of the payload begin that stands behind payloads of these lengths: behind the
+-- header and items, which have so many bytes, and behind each of those payloads with its zeros
 abbrev pub begins : ℕ → List ℕ → ℕ
 begins size before = size + sum_by padded_length before
 
@@ -85,12 +85,23 @@ pub record Contents : Type 0 where
 
 -- what those of a message tell that has this attached
 abbrev pub contents : Message → Attached → Contents
-contents m a = record { creds = a.creds; names = a.names; description = a.description; moment = a.moment; name = m.dst_name; lengths = map length m.payloads; range = m.sealed }
+contents m a = record {
+  creds = a.creds;
+  names = a.names;
+  description = a.description;
+  moment = a.moment;
+  name = m.dst_name;
+  lengths = map length m.payloads;
+  range = m.sealed;
+}
 
 -- the items of what is attached, in their order
 abbrev pub attached_items : Contents → List Entry
-attached_items c = maybe creds_item c.creds ++ map owned_item c.names ++ maybe description_item c.description ++ maybe moment_item c.moment
+attached_items c =
+    maybe creds_item c.creds ++ map owned_item c.names ++ maybe description_item c.description
+    ++ maybe moment_item c.moment
 
 -- the items of a message whose header and items have so many bytes
 abbrev pub items : ℕ → Contents → List Entry
-items size c = attached_items c ++ maybe name_item c.name ++ with_range c.range (off_items size [] c.lengths)
+items size c =
+    attached_items c ++ maybe name_item c.name ++ with_range c.range (off_items size [] c.lengths)

@@ -1,4 +1,5 @@
--- The reading of images from left to right: at each place what the bytes before it allow to stand there.
+-- The reading of images from left to right: at each place what the bytes before it allow to stand
+-- there.
 use Rattle.std.specs.Prelude.{ℕ, ◌+◌, ◌-◌, ◌%◌, ◌^◌, Bool, true, false, not, ◌&&◌, ◌==◌, nat_lt, if◌then◌else◌, List, [], ◌∷◌, ◌++◌, length, take, drop, Option, Some, None, Result, Ok, Err, is_none, option_map}
 use Rattle.std.specs.Int.{cast_signed, w64}
 use Rattle.std.specs.Str.{is_utf8}
@@ -15,8 +16,8 @@ use Rattle.kd_image.specs.declared.image.Image.{Image}
 use Rattle.kd_image.specs.Items.{Contents, begins, padded_length, rising}
 use Rattle.kd_image.specs.Images.{notice_destination, notice_last}
 
--- where the header breaks the format, if it does: the size word where it isn't the size of a header and items that the
--- bytes have, the flags where one is unknown
+-- where the header breaks the format, if it does: the size word where it isn't the size of a header
+-- and items that the bytes have, the flags where one is unknown
 unfoldable pub header_break : List ℕ → Option ℕ
 header_break bytes =
     if nat_lt (length bytes) 8 then Some 0
@@ -41,7 +42,15 @@ header_of bytes = record {
 
 -- what no item says
 abbrev pub blank : Contents
-blank = record { creds = None; names = []; description = None; moment = None; name = None; lengths = []; range = None }
+blank = record {
+  creds = None;
+  names = [];
+  description = None;
+  moment = None;
+  name = None;
+  lengths = [];
+  range = None;
+}
 
 -- how far the items have come: whether none was of this kind or of one that stands behind it
 abbrev pub no_payload : Contents → Bool
@@ -72,7 +81,14 @@ with_creds c body =
     else if not (nat_lt (number body) (2 ^ 32)) then None
     else if not (nat_lt (number (drop 8 body)) (2 ^ 32)) then None
     else if not (nat_lt (number (drop 16 body)) 2) then None
-    else Some (record c { creds = Some (record { uid = number body; gid = number (drop 8 body); privileged = number (drop 16 body) == 1 }) })
+    else Some (record c {
+      creds =
+          Some (record {
+            uid = number body;
+            gid = number (drop 8 body);
+            privileged = number (drop 16 body) == 1;
+          });
+    })
 
 -- a name stands behind those before it in byte order
 unfoldable pub with_owned : Contents → List ℕ → Option Contents
@@ -113,7 +129,14 @@ unfoldable pub with_shared : Contents → List ℕ → Option Contents
 with_shared c body =
     if not (is_none c.range) then None
     else if not (length body == 16) then None
-    else Some (record c { range = Some (record { place = length c.lengths; start = number body; length = number (drop 8 body) }) })
+    else Some (record c {
+      range =
+          Some (record {
+            place = length c.lengths;
+            start = number body;
+            length = number (drop 8 body);
+          });
+    })
 
 unfoldable pub with_item : ℕ → Contents → Entry → Option Contents
 with_item size c e =
@@ -126,10 +149,12 @@ with_item size c e =
     else if e.kind == 20 then with_shared c e.body
     else None
 
--- the items, each with its place, and then bytes that are no item, up to the end of a header and items of so many bytes
+-- the items, each with its place, and then bytes that are no item, up to the end of a header and
+-- items of so many bytes
 abbrev pub read_on : ℕ → Contents → List (Entry × ℕ) → List ℕ → Result Contents ReplyError
 read_on size c [] left = if is_empty left then Ok c else Err (Bad (size - length left))
-read_on size c (x ∷ xs) left = elim (with_item size c x.0) [ None ↦ Err (Bad x.1) | Some d ↦ read_on size d xs left ]
+read_on size c (x ∷ xs) left =
+    elim (with_item size c x.0) [ None ↦ Err (Bad x.1) | Some d ↦ read_on size d xs left ]
 
 -- what the items say that stand behind the header
 unfoldable pub contents_in : ℕ → List ℕ → Result Contents ReplyError
@@ -138,14 +163,19 @@ contents_in size area = read_on size blank (placed 64 (entries area)) (left_over
 -- a payload of so many bytes with its zeros, and the bytes behind
 unfoldable pub payload_at : ℕ → List ℕ → Option (List ℕ × List ℕ)
 payload_at n bytes =
+    let parts : List ℕ × List ℕ = (take n bytes, drop (padded_length n) bytes) in
     if nat_lt (length bytes) (padded_length n) then None
-    else if are_zeros (take (padding n) (drop n bytes)) then Some (take n bytes, drop (padded_length n) bytes)
+    else if are_zeros (take (padding n) (drop n bytes)) then Some parts
     else None
 
 -- payloads of these lengths from a place on, to the end of the bytes; `done` are those before it
 abbrev pub payloads_from : List (List ℕ) → ℕ → List ℕ → List ℕ → Result (List (List ℕ)) ReplyError
 payloads_from done at [] bytes = if is_empty bytes then Ok done else Err (Bad at)
-payloads_from done at (n ∷ ns) bytes = elim (payload_at n bytes) [ None ↦ Err (Bad at) | Some x ↦ payloads_from (done ++ x.0 ∷ []) (at + padded_length n) ns x.1 ]
+payloads_from done at (n ∷ ns) bytes =
+    elim (payload_at n bytes) [
+      | None ↦ Err (Bad at)
+      | Some x ↦ payloads_from (done ++ x.0 ∷ []) (at + padded_length n) ns x.1
+    ]
 
 -- the id in the item of an id notice
 abbrev pub id_in : List ℕ → Option ℕ
@@ -172,13 +202,22 @@ notice_of last e =
 
 -- whether the header is that of this notice
 abbrev pub is_header_of : Header → Notice → Bool
-is_header_of h n = h.flags == 0 && (h.priority == 0 && (h.source == 0 && (h.payload_type == 0 && (h.cookie == 0 && (h.dst == notice_destination n h.dst && h.last == notice_last n)))))
+is_header_of h n =
+    h.flags == 0
+    && (h.priority == 0
+    && (h.source == 0
+    && (h.payload_type == 0
+    && (h.cookie == 0
+    && (h.dst == notice_destination n h.dst && h.last == notice_last n)))))
 
 -- the notice behind a header, and the bytes behind its item
 unfoldable pub notice_in : Header → List ℕ → Option (Notice × List ℕ)
 notice_in h area = elim (item_at area) [
   | None ↦ None
-  | Some x ↦ elim (notice_of h.last x.0) [ None ↦ None | Some n ↦ if is_header_of h n then Some (n, x.1) else None ]
+  | Some x ↦ elim (notice_of h.last x.0) [
+    | None ↦ None
+    | Some n ↦ if is_header_of h n then Some (n, x.1) else None
+  ]
 ]
 
 -- what an image of a message says
@@ -192,7 +231,12 @@ message_value h c payloads = record {
   payload_type = h.payload_type;
   cookie = h.cookie;
   last = h.last;
-  attached = record { creds = c.creds; names = c.names; description = c.description; moment = c.moment };
+  attached = record {
+    creds = c.creds;
+    names = c.names;
+    description = c.description;
+    moment = c.moment;
+  };
   dst_name = c.name;
   payloads = payloads;
   shared = c.range;
@@ -207,7 +251,10 @@ notice_value h n = record (message_value h blank []) { notice = Some n }
 unfoldable pub message_reading : Header → List ℕ → List ℕ → Result Image ReplyError
 message_reading h area behind = elim (contents_in h.size area) [
   | Err e ↦ Err e
-  | Ok c ↦ elim (payloads_from [] h.size c.lengths behind) [ Err e ↦ Err e | Ok payloads ↦ Ok (message_value h c payloads) ]
+  | Ok c ↦ elim (payloads_from [] h.size c.lengths behind) [
+    | Err e ↦ Err e
+    | Ok payloads ↦ Ok (message_value h c payloads)
+  ]
 ]
 
 -- a notice has one item and no payload
@@ -219,11 +266,18 @@ notice_reading h n rest behind =
 
 -- what the bytes say behind the header, or where they break the format
 unfoldable pub behind_header : Header → List ℕ → List ℕ → Result Image ReplyError
-behind_header h area behind = elim (notice_in h area) [ Some x ↦ notice_reading h x.0 x.1 behind | None ↦ message_reading h area behind ]
+behind_header h area behind =
+    elim (notice_in h area) [
+      | Some x ↦ notice_reading h x.0 x.1 behind
+      | None ↦ message_reading h area behind
+    ]
 
 -- what an image says, or where bytes break its format
 unfoldable pub reading : List ℕ → Result Image ReplyError
-reading bytes = elim (header_break bytes) [
-  | Some at ↦ Err (Bad at)
-  | None ↦ behind_header (header_of bytes) (drop 64 (take (number bytes) bytes)) (drop (number bytes) bytes)
-]
+reading bytes =
+    let area = drop 64 (take (number bytes) bytes) in
+    let behind = drop (number bytes) bytes in
+    elim (header_break bytes) [
+      | Some at ↦ Err (Bad at)
+      | None ↦ behind_header (header_of bytes) area behind
+    ]

@@ -1,5 +1,5 @@
 -- What an image is made of, what it says, and which values can be made an image of.
-use Rattle.std.specs.Prelude.{◌≡◌, ℕ, ◌+◌, ◌^◌, ◌<◌, ◌≤◌, pos, List, [], length, Some, None, Result, Ok, Err, true, IfSome, FitsSigned}
+use Rattle.std.specs.Prelude.{◌≡◌, ◌≢◌, ℕ, ◌+◌, ◌^◌, ◌<◌, ◌≤◌, pos, List, [], length, Some, None, Result, Ok, Err, true, IfSome, FitsSigned}
 use Rattle.std.specs.List.{AllByRecursion}
 use Rattle.std.specs.Int.{w64}
 use Rattle.std.specs.Str.{is_utf8}
@@ -21,16 +21,16 @@ pub data Origin : Type 0 where
   told : Notice → ℕ → Origin
 
 -- its bytes
-abbrev pub bytes_of : Origin → List ℕ
-bytes_of (sent m source dst a) = image m source dst a
-bytes_of (told n dst) = notice_image n dst
+abbrev pub origin_bytes : Origin → List ℕ
+origin_bytes (sent m source dst a) = image m source dst a
+origin_bytes (told n dst) = notice_image n dst
 
 abbrev pub nothing_attached : Attached
 nothing_attached = record { creds = None; names = []; description = None; moment = None }
 
 -- what it says
-abbrev pub value_of : Origin → Image
-value_of (sent m source dst a) = record {
+abbrev pub image_of_origin : Origin → Image
+image_of_origin (sent m source dst a) = record {
   size = front_length (contents m a);
   flags = m.flags.0;
   priority = m.priority;
@@ -45,7 +45,7 @@ value_of (sent m source dst a) = record {
   shared = m.sealed;
   notice = None;
 }
-value_of (told n dst) = record {
+image_of_origin (told n dst) = record {
   size = length (notice_image n dst);
   flags = 0;
   priority = pos 0;
@@ -67,9 +67,9 @@ IsWord n = n < 2 ^ 64
 abbrev pub IsText : List ℕ → Type 0
 IsText text = is_utf8 text ≡ true
 
--- items can tell this, in an image whose header and items have so many bytes: numbers are of their width, texts are
--- texts, names rise in byte order, a description isn't too long, a message has at most 16 payloads, and the range
--- stands among them
+-- items can tell this, in an image whose header and items have so many bytes: numbers are of their
+-- width, texts are texts, names rise in byte order, a description isn't too long, a message has at
+-- most 16 payloads, and the range stands among them
 pub record IsTold (size : ℕ) (c : Contents) : Type 0 where
   pub creds : IfSome c.creds (λ x. (x.uid < 2 ^ 32) × (x.gid < 2 ^ 32))
   pub names : AllByRecursion IsText c.names
@@ -82,11 +82,11 @@ pub record IsTold (size : ℕ) (c : Contents) : Type 0 where
   pub range : IfSome c.range (λ r. (r.place ≤ length c.lengths) × IsWord r.start × IsWord r.length)
 
 -- a message that can be sent, with what can be attached to it
-pub record IsSent (m : Message) (sender receiver : ℕ) (a : Attached) : Type 0 where
+pub record IsSent (m : Message) (sender destination : ℕ) (a : Attached) : Type 0 where
   pub flags : has_only m.flags.0 7 ≡ true
   pub priority : FitsSigned w64 m.priority
   pub source : IsWord sender
-  pub dst : IsWord receiver
+  pub dst : IsWord destination
   pub payload_type : IsWord m.payload_type
   pub cookie : IsWord m.cookie
   pub last : IsWord m.last
@@ -106,6 +106,10 @@ IsNotice (ReplyDead cookie) = IsWord cookie
 abbrev pub IsSound : Origin → Type 0
 IsSound (sent m source dst a) = IsSent m source dst a
 IsSound (told n dst) = IsNotice n × IsWord dst × IsWord (64 + length (spelling (notice_item n)))
+
+-- an error other than want of memory tells where the bytes break
+abbrev pub BreaksSo : {X : Type 0} → ReplyError → Result X ReplyError → Type 0
+BreaksSo error read = error ≢ OutOfMemory → read ≡ Err error
 
 -- the answer is this value, unless memory ran out
 abbrev pub Gives : Result Image ReplyError → Image → Type 0

@@ -4,7 +4,7 @@ ghost use Rattle.std.specs.Prelude.{◌≡◌, ◌^◌, ◌<◌, ◌++◌, [], �
 ghost use Rattle.kd_item.specs.Spelling.{spellings};
 ghost use Rattle.kd_image.specs.Items.{item, maybe, creds_item, owned_item, moment_item, off_items, shared_item, begins, with_range, contents, items};
 ghost use Rattle.kd_image.specs.Images.{front, image_length, laid, message_header};
-ghost use Rattle.kd_image.specs.Said.{IsSent, sent, value_of};
+ghost use Rattle.kd_image.specs.Said.{IsSent, sent, image_of_origin};
 ghost use Rattle.kd_image.specs.Reading.{reading};
 
 use crate::attached::Attached;
@@ -16,7 +16,8 @@ use kd_types::{Blob, ConnId, Creds, Moment, Text};
 use std::alloc::{AllocError, Global};
 
 fn put_creds(out: &mut Vec<u8>, creds: &Option<Creds>) -> Result<(), AllocError>
-    ensures { OnOk result (out.new.items ≡ out.old.items ++ spellings (maybe creds_item creds.now)) }
+    ensures { OnOk result (out.new.items
+        ≡ out.old.items ++ spellings (maybe creds_item creds.now)) }
 {
     match creds {
         Some(creds) => put_item(
@@ -30,7 +31,8 @@ fn put_creds(out: &mut Vec<u8>, creds: &Option<Creds>) -> Result<(), AllocError>
 }
 
 fn put_moment(out: &mut Vec<u8>, moment: &Option<Moment>) -> Result<(), AllocError>
-    ensures { OnOk result (out.new.items ≡ out.old.items ++ spellings (maybe moment_item moment.now)) }
+    ensures { OnOk result (out.new.items
+        ≡ out.old.items ++ spellings (maybe moment_item moment.now)) }
 {
     match moment {
         Some(moment) => put_item(out, MOMENT, &[moment.0], &[]),
@@ -39,7 +41,8 @@ fn put_moment(out: &mut Vec<u8>, moment: &Option<Moment>) -> Result<(), AllocErr
 }
 
 fn put_text(out: &mut Vec<u8>, kind: u64, text: &Option<Text>) -> Result<(), AllocError>
-    ensures { OnOk result (out.new.items ≡ out.old.items ++ spellings (maybe (item kind []) text.now)) }
+    ensures { OnOk result (out.new.items
+        ≡ out.old.items ++ spellings (maybe (item kind []) text.now)) }
 {
     match text {
         Some(text) => put_item(out, kind, &[], text.bytes()),
@@ -56,10 +59,12 @@ fn put_names(out: &mut Vec<u8>, names: &[Text]) -> Result<(), AllocError>
     Ok(())
 }
 
-/// An item for each payload, the first of which begins at this offset; where the bytes behind them begin.
+/// An item for each payload, the first of which begins at this offset; where the bytes behind them
+/// begin.
 fn put_offsets(out: &mut Vec<u8>, begin: u64, payloads: &[Blob]) -> Result<u64, AllocError>
     requires { begins begin (map length payloads.now) < 2 ^ 63 }
-    ensures ok { OnOk result (out.new.items ≡ out.old.items ++ spellings (off_items begin [] (map length payloads.now))) }
+    ensures ok { OnOk result (out.new.items
+        ≡ out.old.items ++ spellings (off_items begin [] (map length payloads.now))) }
     ensures end { IfOk result (λ n. n ≡ begins begin (map length payloads.now)) }
 {
     let mut at = begin;
@@ -72,7 +77,8 @@ fn put_offsets(out: &mut Vec<u8>, begin: u64, payloads: &[Blob]) -> Result<u64, 
 }
 
 fn put_range(out: &mut Vec<u8>, range: &SealedRange) -> Result<(), AllocError>
-    ensures { OnOk result (out.new.items ≡ out.old.items ++ spellings (shared_item range.now ∷ [])) }
+    ensures { OnOk result (out.new.items
+        ≡ out.old.items ++ spellings (shared_item range.now ∷ [])) }
 {
     put_item(out, SHARED, &[range.start, range.length], &[])
 }
@@ -80,7 +86,10 @@ fn put_range(out: &mut Vec<u8>, range: &SealedRange) -> Result<(), AllocError>
 /// The items of the payloads, and among them that of the range.
 fn put_body(out: &mut Vec<u8>, begin: u64, message: &Message) -> Result<(), AllocError>
     requires { begins begin (map length message.now.payloads) < 2 ^ 63 }
-    ensures { OnOk result (out.new.items ≡ out.old.items ++ spellings (with_range message.now.sealed (off_items begin [] (map length message.now.payloads)))) }
+    ensures { OnOk result (out.new.items
+        ≡ out.old.items
+        ++ spellings (with_range message.now.sealed
+        (off_items begin [] (map length message.now.payloads)))) }
 {
     let payloads = message.payloads.blobs();
     let Some(range) = &message.sealed else {
@@ -103,7 +112,8 @@ fn put_header(
     sender: ConnId,
     dst: u64,
 ) -> Result<(), AllocError>
-    ensures { OnOk result (out.new.items ≡ out.old.items ++ message_header size message.now sender dst) }
+    ensures { OnOk result (out.new.items
+        ≡ out.old.items ++ message_header size message.now sender dst) }
 {
     put_words(
         out,
@@ -128,7 +138,8 @@ fn put_items(
     attached: &Attached,
 ) -> Result<(), AllocError>
     requires { begins size (map length message.now.payloads) < 2 ^ 63 }
-    ensures { OnOk result (out.new.items ≡ out.old.items ++ spellings (items size (contents message.now attached.now))) }
+    ensures { OnOk result (out.new.items
+        ≡ out.old.items ++ spellings (items size (contents message.now attached.now))) }
 {
     put_creds(out, &attached.creds)?;
     put_names(out, attached.names.texts())?;
@@ -139,9 +150,9 @@ fn put_items(
     Ok(())
 }
 
-/// Header and items of the message's image: the prefix that is published in front of its payloads. The names that are
-/// attached are written in the order in which they are handed in. It takes memory once, as much as the prefix has
-/// bytes.
+/// Header and items of the message's image: the prefix that is published in front of its payloads.
+/// The names that are attached are written in the order in which they are handed in. It takes
+/// memory once, as much as the prefix has bytes.
 #[tactic(auto, using(crate::proofs::Lengths::length_parts), unfolding(crate::specs::Images::front))]
 pub fn build(
     alloc: Global,
@@ -152,9 +163,12 @@ pub fn build(
 ) -> Result<Vec<u8>, AllocError>
     requires { image_length message.now attached.now < 2 ^ 32 }
     ensures front { IfOk result (λ v. v.items ≡ front message.now sender dst attached.now) }
-    // Of what can be sent, with names that rise in byte order, the prefix and the payloads read back as what they were
-    // built from.
-    ensures again { IsSent message.now sender dst attached.now → IfOk result (λ v. reading (v.items ++ laid message.now.payloads) ≡ Ok (value_of (sent message.now sender dst attached.now))) }
+    // Of what can be sent, with names that rise in byte order, the prefix and the payloads read
+    // back as what they were built from.
+    ensures again { IsSent message.now sender dst attached.now
+        → IfOk result (λ v.
+        reading (v.items ++ laid message.now.payloads)
+        ≡ Ok (image_of_origin (sent message.now sender dst attached.now))) }
 {
     let size = front_len(message, attached);
     let mut out = Vec::with_capacity(alloc, size)?;

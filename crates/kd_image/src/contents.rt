@@ -1,6 +1,7 @@
 //! Reading the items of a message.
 
-ghost use Rattle.std.specs.Prelude.{◌≡◌, ◌≢◌, ◌+◌, Ok, Err, length, IfOk, IfErr};
+ghost use Rattle.std.specs.Prelude.{◌≡◌, ◌+◌, Ok, length, IfOk, IfErr};
+ghost use Rattle.kd_image.specs.Said.{BreaksSo};
 ghost use Rattle.kd_image.specs.Reading.{contents_in};
 
 use crate::draft::Draft;
@@ -8,12 +9,12 @@ use kd_item::first_item;
 use kd_types::ReplyError;
 use std::alloc::Global;
 
-/// What the items behind the header say, or where they break the format. Size is what the header says of header and
-/// items.
+/// What the items behind the header say, or where they break the format. Size is what the header
+/// says of header and items.
 pub(crate) fn read_contents(alloc: Global, size: u64, area: &[u8]) -> Result<Draft, ReplyError>
     requires { 64 + length area.now ≡ size }
     ensures read { IfOk result (λ d. contents_in size area.now ≡ Ok d) }
-    ensures refused { IfErr result (λ e. e ≢ ReplyError.OutOfMemory → contents_in size area.now ≡ Err e) }
+    ensures refused { IfErr result (λ e. BreaksSo e (contents_in size area.now)) }
 {
     let mut draft = Draft::blank(alloc);
     let mut rest = area;

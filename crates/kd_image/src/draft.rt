@@ -3,7 +3,7 @@
 ghost use Rattle.std.specs.Prelude.{◌≡◌, ◌^◌, ◌≤◌, IsTrue, IfOk, IfErr, IfSome, IfNone, vec_len};
 ghost use Rattle.std.specs.Str.{is_utf8};
 ghost use Rattle.kd_image.specs.Items.{Contents, begins, rising};
-ghost use Rattle.kd_item.specs.Reading.{entry};
+ghost use Rattle.kd_item.specs.Reading.{item_entry};
 ghost use Rattle.kd_image.specs.Reading.{blank, if_taken, no_description, no_item, no_moment, no_name, no_payload, with_creds, with_description, with_item, with_moment, with_name, with_off, with_owned, with_shared};
 
 use crate::kind::{CREDS, DESCRIPTION, DST_NAME, MOMENT, OFF, OWNED, SHARED};
@@ -58,7 +58,16 @@ impl Model for Draft {
 
     ghost invariant = { λ d. (vec_len d.lengths ≤ 16) × IsTrue (rising d.names.items) };
 
-    ghost view = { λ d. record { creds = d.creds; names = d.names.items; description = d.description; moment = d.moment; name = d.name; lengths = d.lengths.items; range = d.range } };
+    ghost view = { λ d.
+        record {
+          creds = d.creds;
+          names = d.names.items;
+          description = d.description;
+          moment = d.moment;
+          name = d.name;
+          lengths = d.lengths.items;
+          range = d.range;
+        } };
 }
 
 impl Draft {
@@ -157,7 +166,8 @@ impl Draft {
 
     #[tactic(auto, unfolding(crate::specs::Reading::with_description))]
     fn add_description(&mut self, alloc: Global, body: &[u8]) -> Result<bool, ReplyError>
-        ensures ok { IfOk result (λ taken. if_taken taken self.new ≡ with_description self.old body.now) }
+        ensures ok { IfOk result
+            (λ taken. if_taken taken self.new ≡ with_description self.old body.now) }
         ensures err { IfErr result (λ e. e ≡ ReplyError.OutOfMemory) }
     {
         if !self.no_description() {
@@ -204,7 +214,8 @@ impl Draft {
 
     #[tactic(auto, unfolding(crate::specs::Reading::with_off))]
     fn add_off(&mut self, size: u64, body: &[u8]) -> Result<bool, ReplyError>
-        ensures ok { IfOk result (λ taken. if_taken taken self.new ≡ with_off size self.old body.now) }
+        ensures ok { IfOk result
+            (λ taken. if_taken taken self.new ≡ with_off size self.old body.now) }
         ensures err { IfErr result (λ e. e ≡ ReplyError.OutOfMemory) }
     {
         if body.len() != 16 {
@@ -241,7 +252,8 @@ impl Draft {
         true
     }
 
-    /// Takes the item in, if it may stand behind those before it. Size is what the header says of header and items.
+    /// Takes the item in, if it may stand behind those before it. Size is what the header says of
+    /// header and items.
     #[tactic(auto, unfolding(crate::specs::Reading::with_item))]
     pub(crate) fn add(
         &mut self,
@@ -249,7 +261,8 @@ impl Draft {
         size: u64,
         item: Item<'_>,
     ) -> Result<bool, ReplyError>
-        ensures ok { IfOk result (λ taken. if_taken taken self.new ≡ with_item size self.old (entry item.entry)) }
+        ensures ok { IfOk result
+            (λ taken. if_taken taken self.new ≡ with_item size self.old (item_entry item.entry)) }
         ensures err { IfErr result (λ e. e ≡ ReplyError.OutOfMemory) }
     {
         match item.kind {

@@ -21,8 +21,9 @@ pub(crate) struct Header {
     pub(crate) last: u64,
 }
 
-/// Where the header breaks the format, if it does: the size word where it isn't the size of a header and items that
-/// the bytes have, the flags where one is unknown. The other words may be any.
+/// Where the header breaks the format, if it does: the size word where it isn't the size of a
+/// header and items that the bytes have, the flags where one is unknown. The other words may be
+/// any.
 #[tactic(auto, unfolding(crate::specs::Reading::header_break))]
 pub(crate) fn find_break(bytes: &[u8]) -> Option<u64>
     ensures fits { length bytes.now < 2 ^ 64 }

@@ -5,7 +5,8 @@ use crate::message::SealedRange;
 use crate::notice::Notice;
 use kd_types::{BlobList, ConnId, Cookie, Text};
 
-/// What an image says: of a message what its sender handed in and the bus attached, or a notice of the bus.
+/// What an image says: of a message what its sender handed in and the bus attached, or a notice of
+/// the bus.
 #[derive(Debug, Drop)]
 pub struct Image {
     /// The bytes of header and items.
@@ -13,7 +14,8 @@ pub struct Image {
     /// The message's flags, as a word.
     pub flags: u64,
     pub priority: i64,
-    /// The id of the connection that it was sent to; all ones for what goes to all.
+    /// The id of the connection that it is for, which in a monitor's copy isn't the reader; all
+    /// ones for what goes to all.
     pub dst: u64,
     /// The sender; 0 for a notice.
     pub source: ConnId,

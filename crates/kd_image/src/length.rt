@@ -63,7 +63,8 @@ fn range_len(range: &Option<SealedRange>) -> usize
     }
 }
 
-/// The bytes of the text's item, if there is one, or LIMIT. They are as many for each kind, so 0 stands for it here.
+/// The bytes of the text's item, if there is one, or LIMIT. They are as many for each kind, so 0
+/// stands for it here.
 fn text_len(text: &Option<Text>) -> usize
     ensures value { result ≡ min (length (spellings (maybe (item 0 []) text.now))) (2 ^ 32) }
     ensures small { result ≤ 2 ^ 32 }
@@ -126,8 +127,8 @@ pub fn is_short(message: &Message, attached: &Attached) -> bool
     whole_len(message, attached) < LIMIT
 }
 
-/// The bytes of the whole image: header, items, and payloads with their zeros. [`is_short`] tells whether it may be
-/// asked.
+/// The bytes of the whole image: header, items, and payloads with their zeros. [`is_short`] tells
+/// whether it may be asked.
 pub fn image_len(message: &Message, attached: &Attached) -> u64
     requires { image_length message.now attached.now < 2 ^ 32 }
     ensures value { result ≡ image_length message.now attached.now }

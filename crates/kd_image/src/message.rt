@@ -23,7 +23,8 @@ pub struct Message {
     pub payload_type: u64,
     /// The sender's number for the message.
     pub cookie: Cookie,
-    /// With the flag for an expected reply its deadline, else the cookie of the request that is answered, or 0.
+    /// With the flag for an expected reply its deadline, else the cookie of the request that is
+    /// answered, or 0.
     pub last: u64,
     /// The name that the message is sent to, if it is sent by name.
     pub dst_name: Option<Text>,

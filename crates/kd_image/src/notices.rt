@@ -81,8 +81,8 @@ pub(crate) fn last_word(notice: &Notice) -> u64
     }
 }
 
-/// The image of a notice. `dst` is the id of the one that asked, for the two notices of a reply; all others go to
-/// all, whatever it is. It takes memory once, as much as the image has bytes.
+/// The image of a notice. `dst` is the id of the one that asked, for the two notices of a reply;
+/// all others go to all, whatever it is. It takes memory once, as much as the image has bytes.
 #[tactic(auto, unfolding(crate::specs::Images::notice_image))]
 pub fn build_notice(alloc: Global, notice: &Notice, dst: u64) -> Result<Vec<u8>, AllocError>
     ensures { IfOk result (λ v. v.items ≡ notice_image notice.now dst) }

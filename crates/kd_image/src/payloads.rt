@@ -1,7 +1,8 @@
 //! Reading the payloads of a message.
 
-ghost use Rattle.std.specs.Prelude.{◌≡◌, ◌≢◌, ◌+◌, ◌^◌, ◌<◌, Ok, Err, [], length, option_map, IfOk, IfErr, IfSome};
+ghost use Rattle.std.specs.Prelude.{◌≡◌, ◌+◌, ◌^◌, ◌<◌, Ok, [], length, option_map, IfOk, IfErr, IfSome};
 ghost use Rattle.kd_image.specs.Items.{padded_length};
+ghost use Rattle.kd_image.specs.Said.{BreaksSo};
 ghost use Rattle.kd_image.specs.Reading.{payload_at, payloads_from};
 
 use kd_item::{are_zeros, padding};
@@ -29,8 +30,8 @@ fn first_payload<'a>(count: u64, bytes: &'a [u8]) -> Option<(&'a [u8], &'a [u8])
     Some((payload, bytes.split_at(count + zeros).1))
 }
 
-/// Payloads of these lengths, the first of which begins at this place of the image, up to the end of its bytes; or
-/// where they break the format.
+/// Payloads of these lengths, the first of which begins at this place of the image, up to the end
+/// of its bytes; or where they break the format.
 pub(crate) fn read_payloads(
     alloc: Global,
     lengths: &[u64],
@@ -39,7 +40,8 @@ pub(crate) fn read_payloads(
 ) -> Result<Vec<Blob>, ReplyError>
     requires { begin + length bytes.now < 2 ^ 64 }
     ensures read { IfOk result (λ v. payloads_from [] begin lengths.now bytes.now ≡ Ok v.items) }
-    ensures refused { IfErr result (λ e. e ≢ ReplyError.OutOfMemory → payloads_from [] begin lengths.now bytes.now ≡ Err e) }
+    ensures refused { IfErr result
+        (λ e. BreaksSo e (payloads_from [] begin lengths.now bytes.now)) }
 {
     let mut payloads = Vec::with_capacity(alloc, lengths.len())?;
     let mut rest = bytes;

@@ -1,7 +1,7 @@
 //! Reading images.
 
-ghost use Rattle.std.specs.Prelude.{◌≡◌, ◌≢◌, ◌+◌, ◌^◌, ◌<◌, Ok, Err, length, IfOk, IfErr};
-ghost use Rattle.kd_image.specs.Said.{Gives, IsSound, Origin, bytes_of, value_of};
+ghost use Rattle.std.specs.Prelude.{◌≡◌, ◌+◌, ◌^◌, ◌<◌, Ok, length, IfOk, IfErr};
+ghost use Rattle.kd_image.specs.Said.{BreaksSo, Gives, IsSound, Origin, origin_bytes, image_of_origin};
 ghost use Rattle.kd_image.specs.Reading.{behind_header, blank, message_reading, message_value, notice_reading, reading};
 
 use crate::attached::Attached;
@@ -77,7 +77,8 @@ fn read_message(
     requires size { 64 + length area.now ≡ header.now.size }
     requires fits { header.now.size + length behind.now < 2 ^ 64 }
     ensures read { IfOk result (λ i. message_reading header.now area.now behind.now ≡ Ok i) }
-    ensures refused { IfErr result (λ e. e ≢ ReplyError.OutOfMemory → message_reading header.now area.now behind.now ≡ Err e) }
+    ensures refused { IfErr result
+        (λ e. BreaksSo e (message_reading header.now area.now behind.now)) }
 {
     let draft = read_contents(alloc, header.size, area)?;
     let payloads = read_payloads(alloc, &draft.lengths, header.size, behind)?;
@@ -95,7 +96,8 @@ fn read_behind(
     requires size { 64 + length area.now ≡ header.now.size }
     requires fits { header.now.size + length behind.now < 2 ^ 64 }
     ensures read { IfOk result (λ i. behind_header header.now area.now behind.now ≡ Ok i) }
-    ensures refused { IfErr result (λ e. e ≢ ReplyError.OutOfMemory → behind_header header.now area.now behind.now ≡ Err e) }
+    ensures refused { IfErr result
+        (λ e. BreaksSo e (behind_header header.now area.now behind.now)) }
 {
     match find_notice(alloc, header, area)? {
         Some((notice, rest)) => finish_notice(alloc, header, notice, rest, behind),
@@ -108,7 +110,7 @@ fn read_behind(
 fn read_bytes(alloc: Global, bytes: &[u8]) -> Result<Image, ReplyError>
     ensures fits { length bytes.now < 2 ^ 64 }
     ensures read { IfOk result (λ i. reading bytes.now ≡ Ok i) }
-    ensures refused { IfErr result (λ e. e ≢ ReplyError.OutOfMemory → reading bytes.now ≡ Err e) }
+    ensures refused { IfErr result (λ e. BreaksSo e (reading bytes.now)) }
 {
     if let Some(at) = find_break(bytes) {
         return Err(ReplyError::Bad { at });
@@ -119,17 +121,20 @@ fn read_bytes(alloc: Global, bytes: &[u8]) -> Result<Image, ReplyError>
     read_behind(alloc, &header, area, behind)
 }
 
-/// What an image says. Bytes that are no image are refused with the place of the first word, item or run of bytes that
-/// breaks the format, read from left to right: one that would run past the end of the bytes or of its header breaks at
-/// its own start, what is left over at its start, and what is missing where it would begin. An item out of order breaks
-/// at its start, and so does an owned name that isn't above the one before it in byte order.
+/// What an image says. Bytes that are no image are refused with the place of the first word, item
+/// or run of bytes that breaks the format, read from left to right: one that would run past the end
+/// of the bytes or of its header breaks at its own start, what is left over at its start, and what
+/// is missing where it would begin. An item out of order breaks at its start, and so does an owned
+/// name that isn't above the one before it in byte order.
 pub fn read_image(alloc: Global, bytes: &[u8]) -> Result<Image, ReplyError>
     // What is read was built from what it says.
-    ensures found { IfOk result (λ i. (o : Origin) × IsSound o × (i ≡ value_of o) × (bytes.now ≡ bytes_of o)) }
+    ensures found { IfOk result (λ i. (o : Origin) × IsSound o × (i ≡ image_of_origin o)
+        × (bytes.now ≡ origin_bytes o)) }
     // What was built reads back as what it was built from.
-    ensures built { (o : Origin) → IsSound o → bytes.now ≡ bytes_of o → Gives result (value_of o) }
+    ensures built { (o : Origin) → IsSound o → bytes.now ≡ origin_bytes o
+        → Gives result (image_of_origin o) }
     ensures read { IfOk result (λ i. reading bytes.now ≡ Ok i) }
-    ensures refused { IfErr result (λ e. e ≢ ReplyError.OutOfMemory → reading bytes.now ≡ Err e) }
+    ensures refused { IfErr result (λ e. BreaksSo e (reading bytes.now)) }
 {
     read_bytes(alloc, bytes)
 }

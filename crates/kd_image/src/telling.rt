@@ -1,7 +1,7 @@
 //! Reading notices.
 
 ghost use Rattle.std.specs.Prelude.{◌≡◌, ◌≤◌, length, option_map, IfOk, IfErr, IfSome};
-ghost use Rattle.kd_item.specs.Reading.{entry};
+ghost use Rattle.kd_item.specs.Reading.{item_entry};
 ghost use Rattle.kd_image.specs.Reading.{id_in, is_header_of, notice_in, notice_of, owners_in};
 
 use crate::draft::is_text;
@@ -45,7 +45,7 @@ fn read_owners(alloc: Global, body: &[u8]) -> Result<Option<(ConnId, ConnId, Tex
 /// The notice of an item, if it is one.
 #[tactic(auto, unfolding(crate::specs::Reading::notice_of))]
 fn read_notice(alloc: Global, last: u64, item: Item<'_>) -> Result<Option<Notice>, ReplyError>
-    ensures ok { IfOk result (λ n. n ≡ notice_of last (entry item.entry)) }
+    ensures ok { IfOk result (λ n. n ≡ notice_of last (item_entry item.entry)) }
     ensures err { IfErr result (λ e. e ≡ ReplyError.OutOfMemory) }
 {
     let body = item.body;
@@ -94,7 +94,8 @@ pub(crate) fn find_notice<'a>(
     header: &Header,
     area: &'a [u8],
 ) -> Result<Option<(Notice, &'a [u8])>, ReplyError>
-    ensures ok { IfOk result (λ o. option_map (λ f. (f.0, f.1.now)) o ≡ notice_in header.now area.now) }
+    ensures ok { IfOk result
+        (λ o. option_map (λ f. (f.0, f.1.now)) o ≡ notice_in header.now area.now) }
     ensures inside { IfOk result (λ o. IfSome o (λ f. length f.1.now ≤ length area.now)) }
     ensures err { IfErr result (λ e. e ≡ ReplyError.OutOfMemory) }
 {

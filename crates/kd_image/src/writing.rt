@@ -18,8 +18,8 @@ pub(crate) fn put_words(out: &mut Vec<u8>, numbers: &[u64]) -> Result<(), AllocE
     Ok(())
 }
 
-/// Appends an item whose body is up to eight numbers and then a text, with its padding. Where there is room it takes
-/// no memory.
+/// Appends an item whose body is up to eight numbers and then a text, with its padding. Where there
+/// is room it takes no memory.
 pub(crate) fn put_item(
     out: &mut Vec<u8>,
     kind: u64,
@@ -27,7 +27,8 @@ pub(crate) fn put_item(
     text: &[u8],
 ) -> Result<(), AllocError>
     requires { length numbers.now ≤ 8 }
-    ensures { OnOk result (out.new.items ≡ out.old.items ++ spelling (item kind numbers.now text.now)) }
+    ensures { OnOk result (out.new.items
+        ≡ out.old.items ++ spelling (item kind numbers.now text.now)) }
 {
     out.reserve(item_len(numbers.len(), text.len()))?;
     put_entry(out, kind, numbers, text);

@@ -30,7 +30,8 @@ number bytes = little_number 8 bytes
 
 -- the size of header and body, the kind, the body, zeros
 abbrev pub spelling : Entry → List ℕ
-spelling e = word (16 + length e.body) ++ word e.kind ++ e.body ++ replicate (padding (16 + length e.body)) 0
+spelling e =
+    word (16 + length e.body) ++ word e.kind ++ e.body ++ replicate (padding (16 + length e.body)) 0
 
 abbrev pub spellings : List Entry → List ℕ
 spellings es = flat_map spelling es

@@ -35,19 +35,22 @@ pub struct Items<'a> {
 impl<'a> Items<'a> {
     ghost use Rattle.std.specs.Prelude.{◌≡◌, ◌≤◌, ◌<◌, List, length, drop, option_map, IfSome, IfOk, IfErr, IsOkAnd};
     ghost use Rattle.kd_item.specs.Spelling.{Entry, AreItems, BreaksAt, spellings};
-    ghost use Rattle.kd_item.specs.Reading.{item_at, entry, placed, unread};
+    ghost use Rattle.kd_item.specs.Reading.{item_at, item_entry, placed, unread_items};
 
     /// The items of the bytes, or where the first one begins that breaks the format.
     pub(crate) fn of(bytes: &'a [u8]) -> Result<Items<'a>, At>
-        ensures found { IfOk result (λ items. (es : List Entry) × AreItems es × (bytes.now ≡ spellings es) × (unread items ≡ placed 0 es)) }
-        ensures only { (es : List Entry) → AreItems es → bytes.now ≡ spellings es → IsOkAnd result (λ items. unread items ≡ placed 0 es) }
+        ensures found { IfOk result (λ items.
+            (es : List Entry) × AreItems es × (bytes.now ≡ spellings es)
+            × (unread_items items ≡ placed 0 es)) }
+        ensures only { (es : List Entry) → AreItems es → bytes.now ≡ spellings es
+            → IsOkAnd result (λ items. unread_items items ≡ placed 0 es) }
         ensures broken { IfErr result (λ e. BreaksAt bytes.now e.at) }
     {
         let mut rest = bytes;
         let mut at = 0;
         while !rest.is_empty() {
             let Some((_, size)) = Items::first(rest, at) else {
-                return Err(At { at });
+                return Err(At { at: at as u64 });
             };
             rest = rest.split_at(size).1;
             at += size;
@@ -58,7 +61,8 @@ impl<'a> Items<'a> {
     /// The item at the front, and how many bytes it takes.
     #[tactic(auto, unfolding(crate::specs::Reading::item_at, crate::specs::Spelling::number))]
     pub(crate) fn first(rest: &'a [u8], at: usize) -> Option<(Item<'a>, usize)>
-        ensures value { option_map (λ f. (entry f.0, drop f.1 rest.now)) result ≡ item_at rest.now }
+        ensures value { option_map (λ f. (item_entry f.0, drop f.1 rest.now)) result
+            ≡ item_at rest.now }
         ensures place { IfSome result (λ f. f.0.at ≡ at) }
         ensures inside { IfSome result (λ f. f.1 ≤ length rest.now) }
         ensures some { IfSome result (λ f. 0 < f.1) }
@@ -94,11 +98,11 @@ impl<'a> Iterator for Items<'a> {
     type Item = Item<'a>;
 
     ghost use Rattle.std.specs.Iterator.{YieldsFirstBy, item_count};
-    ghost use Rattle.kd_item.specs.Reading.{placed_item, unread};
+    ghost use Rattle.kd_item.specs.Reading.{placed_item, unread_items};
 
-    ghost next_gives = { YieldsFirstBy placed_item unread };
+    ghost next_gives = { YieldsFirstBy placed_item unread_items };
 
-    ghost remaining = { item_count unread };
+    ghost remaining = { item_count unread_items };
 
     fn next(&mut self) -> Option<Item<'a>> {
         let (item, size) = Items::first(self.rest, self.at)?;

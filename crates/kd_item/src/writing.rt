@@ -63,12 +63,16 @@ pub fn put_words(out: &mut Vec<u8>, numbers: &[u64])
     }
 }
 
-/// Adds an item whose body is these words and then these bytes, and its padding; there is room for it.
+/// Adds an item whose body is these words and then these bytes, and its padding; there is room for
+/// it.
 pub fn put_entry(out: &mut Vec<u8>, kind: u64, numbers: &[u64], bytes: &[u8])
     requires few { length numbers.now ≤ 8 }
-    requires room { vec_len out.old + item_length (8 * length numbers.now + length bytes.now) ≤ vec_capacity out.old }
-    ensures items { out.new.items ≡ out.old.items ++ spelling (record { kind = kind; body = words numbers.now ++ bytes.now }) }
-    ensures len { vec_len out.new ≡ vec_len out.old + item_length (8 * length numbers.now + length bytes.now) }
+    requires room { vec_len out.old + item_length (8 * length numbers.now + length bytes.now)
+        ≤ vec_capacity out.old }
+    ensures items { out.new.items ≡ out.old.items
+        ++ spelling (record { kind = kind; body = words numbers.now ++ bytes.now }) }
+    ensures len { vec_len out.new
+        ≡ vec_len out.old + item_length (8 * length numbers.now + length bytes.now) }
     ensures room { vec_capacity out.old ≤ vec_capacity out.new }
 {
     let size = 16 + 8 * numbers.len() + bytes.len();
@@ -80,7 +84,8 @@ pub fn put_entry(out: &mut Vec<u8>, kind: u64, numbers: &[u64], bytes: &[u8])
 
 /// Appends an item and its padding.
 pub fn put_item(out: &mut Vec<u8>, kind: u64, body: &[u8]) -> Result<(), AllocError>
-    ensures ok { OnOk result (out.new.items ≡ out.old.items ++ spelling (record { kind = kind; body = body.now })) }
+    ensures ok { OnOk result (out.new.items
+        ≡ out.old.items ++ spelling (record { kind = kind; body = body.now })) }
     ensures err { OnErr result (out.new.items ≡ out.old.items) }
 {
     let size = 16 + body.len();

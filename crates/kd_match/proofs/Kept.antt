@@ -8,7 +8,7 @@ use Rattle.std.proofs.lemmas.List.Kept.{IsNonDecreasingBy-filter}
 use Rattle.kd_model.specs.Words.{put_in_order, but_those, all_of, some_of}
 use Rattle.kd_match.specs.declared.rule.Rule.{Rule}
 use Rattle.kd_match.specs.declared.condition.Condition.{Condition}
-use Rattle.kd_match.specs.Rules.{Table, IsTable, add_refusal, answer, fits, is_before, is_named, kept, misnames, rules_of}
+use Rattle.kd_match.specs.Rules.{Table, IsTable, rule_refusal, result_of, mask_fits, comes_before, is_named, rules_left, misnames, rules_of}
 
 -- at each place
 pub all_at : {X : Type 0} (p : X → Bool) (xs : List X) (i : ℕ) (d : X) → list_all p xs ≡ true → i < length xs → p (get_or xs i d) ≡ true
@@ -26,13 +26,13 @@ all_those p q (x ∷ xs) all = go (q x) (all_those p q xs ((and_parts (p x) (lis
     go false later = later
 
 -- of one more
-pub all_put : (p : Rule → Bool) (rule : Rule) (xs : List Rule) → p rule ≡ true → list_all p xs ≡ true → list_all p (put_in_order is_before rule xs) ≡ true
+pub all_put : (p : Rule → Bool) (rule : Rule) (xs : List Rule) → p rule ≡ true → list_all p xs ≡ true → list_all p (put_in_order comes_before rule xs) ≡ true
 all_put p rule [] here all = and_from (p rule) true here refl
-all_put p rule (x ∷ xs) here all = go (is_before rule x) refl (all_put p rule xs here ((and_parts (p x) (list_all p xs) all).1))
+all_put p rule (x ∷ xs) here all = go (comes_before rule x) refl (all_put p rule xs here ((and_parts (p x) (list_all p xs) all).1))
   where
-    go : (t : Bool) → is_before rule x ≡ t → list_all p (put_in_order is_before rule xs) ≡ true → list_all p (put_in_order is_before rule (x ∷ xs)) ≡ true
+    go : (t : Bool) → comes_before rule x ≡ t → list_all p (put_in_order comes_before rule xs) ≡ true → list_all p (put_in_order comes_before rule (x ∷ xs)) ≡ true
     go true e later = rw (e, put_in_order) (and_from (p rule) (list_all p (x ∷ xs)) here all)
-    go false e later = rw (e, put_in_order) (and_from (p x) (list_all p (put_in_order is_before rule xs)) ((and_parts (p x) (list_all p xs) all).0) later)
+    go false e later = rw (e, put_in_order) (and_from (p x) (list_all p (put_in_order comes_before rule xs)) ((and_parts (p x) (list_all p xs) all).0) later)
 
 twice : (b : Bool) → b ≡ not (not b)
 twice true = refl
@@ -70,23 +70,23 @@ own_named id cookie (x ∷ rules) = go (eqb x.id id) (own_named id cookie rules)
 pub table_those : (size : ℕ) (q : Rule → Bool) (rules : List Rule) → IsTable size rules → IsTable size (filter q rules)
 table_those size q rules t = record {
   in_order = IsNonDecreasingBy-filter (λ (r : Rule). r.id) q rules t.in_order;
-  sized = all_those (λ (r : Rule). all_of (fits size) r.conditions) q rules t.sized;
+  sized = all_those (λ (r : Rule). all_of (mask_fits size) r.conditions) q rules t.sized;
 }
 
-pub table_kept : (size : ℕ) (rules : List Rule) (id cookie : ℕ) (replace : Bool) → IsTable size rules → IsTable size (kept rules id cookie replace)
+pub table_kept : (size : ℕ) (rules : List Rule) (id cookie : ℕ) (replace : Bool) → IsTable size rules → IsTable size (rules_left rules id cookie replace)
 table_kept size rules id cookie true t = table_those size (λ r. not (is_named id cookie r)) rules t
 table_kept size rules id cookie false t = t
 
-fitting : (size : ℕ) (cs : List Condition) → some_of (λ c. not (fits size c)) cs ≡ false → all_of (fits size) cs ≡ true
+fitting : (size : ℕ) (cs : List Condition) → some_of (λ c. not (mask_fits size c)) cs ≡ false → all_of (mask_fits size) cs ≡ true
 fitting size [] h = refl
-fitting size (c ∷ cs) h = let parts = or_parts (not (fits size c)) (some_of (λ c. not (fits size c)) cs) h in and_from (fits size c) (all_of (fits size) cs) (not-false (fits size c) parts.0) (fitting size cs parts.1)
+fitting size (c ∷ cs) h = let parts = or_parts (not (mask_fits size c)) (some_of (λ c. not (mask_fits size c)) cs) h in and_from (mask_fits size c) (all_of (mask_fits size) cs) (not-false (mask_fits size c) parts.0) (fitting size cs parts.1)
 
 -- a rule that is taken has masks of the size alone
-pub taken_fits : (table : Table) (id cookie : ℕ) (cs : List Condition) (replace : Bool) → answer (add_refusal table id cookie cs replace) ≡ Ok tt → all_of (fits table.size) cs ≡ true
-unfolding add_refusal
-taken_fits table id cookie cs replace e = go (some_of misnames cs) (some_of (λ c. not (fits table.size c)) cs) refl refl
+pub taken_fits : (table : Table) (id cookie : ℕ) (cs : List Condition) (replace : Bool) → result_of (rule_refusal table id cookie cs replace) ≡ Ok tt → all_of (mask_fits table.size) cs ≡ true
+unfolding rule_refusal
+taken_fits table id cookie cs replace e = go (some_of misnames cs) (some_of (λ c. not (mask_fits table.size c)) cs) refl refl
   where
-    go : (s t : Bool) → some_of misnames cs ≡ s → some_of (λ c. not (fits table.size c)) cs ≡ t → all_of (fits table.size) cs ≡ true
+    go : (s t : Bool) → some_of misnames cs ≡ s → some_of (λ c. not (mask_fits table.size c)) cs ≡ t → all_of (mask_fits table.size) cs ≡ true
     go true t es et = absurd (let h = rw es at e in cc)
     go false true es et = absurd (let h = rw (es, et) at e in cc)
     go false false es et = fitting table.size cs et

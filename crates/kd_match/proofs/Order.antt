@@ -8,7 +8,7 @@ use Rattle.std.proofs.lemmas.List.Elements.{filter-append}
 use Rattle.std.proofs.lemmas.List.Sorted.{IsNonDecreasingBy-drop, IsNonDecreasingBy-insert}
 use Rattle.kd_model.specs.Words.{put_in_order}
 use Rattle.kd_match.specs.declared.rule.Rule.{Rule}
-use Rattle.kd_match.specs.Rules.{is_before, rules_of}
+use Rattle.kd_match.specs.Rules.{comes_before, rules_of}
 
 -- a list of which nothing passes, and one of which all does
 filter_nothing : (p : Rule → Bool) (xs : List Rule) → ((k : ℕ) (d : Rule) → k < length xs → p (get_or xs k d) ≡ false) → filter p xs ≡ []
@@ -61,7 +61,7 @@ own_part id rules i j le below le' upto =
         rw (get_or-drop i rules k d) (ltb-false _ _ (below.1 (i + k) d (omega arith) (omega (arith, length-drop i rules))))
 
 -- behind the last rule whose id isn't above the new one's is the new one's place
-pub put_at : (rule : Rule) (rules : List Rule) (i : ℕ) → i ≤ length rules → Parts (λ r. leb r.id rule.id) rules i → put_in_order is_before rule rules ≡ insert rules i rule
+pub put_at : (rule : Rule) (rules : List Rule) (i : ℕ) → i ≤ length rules → Parts (λ r. leb r.id rule.id) rules i → put_in_order comes_before rule rules ≡ insert rules i rule
 put_at rule [] zero le parts = refl
 put_at rule [] (suc i) le parts = absurd (omega arith)
 put_at rule (x ∷ rules) zero le parts = rw (lt-ltb _ _ (leb-false x.id rule.id (parts.1 0 x (omega arith) (omega arith))), put_in_order) refl

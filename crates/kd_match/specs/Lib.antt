@@ -1,2 +1,3 @@
+-- what a reader has to believe: what conditions hold of, and the rules of all connections
 pub mod Told
 pub mod Rules

@@ -5,13 +5,14 @@ use Rattle.kd_model.specs.Words.{those, but_those, all_of, some_of, is_empty, fi
 use Rattle.kd_types.specs.declared.refusal.Refusal.{Refusal}
 use Rattle.kd_types.specs.declared.refusal.Refusal.TheVariants as refusal
 use Rattle.kd_name.specs.Names.{is_name}
-use Rattle.kd_bloom.specs.Bits.{is_sized}
+use Rattle.kd_bloom.specs.Bits.{has_filter_size}
 use Rattle.kd_match.specs.declared.condition.Condition.{Condition}
 use Rattle.kd_match.specs.declared.condition.Condition.TheVariants as condition
 use Rattle.kd_match.specs.declared.rule.Rule.{Rule}
-use Rattle.kd_match.specs.Told.{Told, message, holds}
+use Rattle.kd_match.specs.Told.{Told, message, condition_holds}
 
--- the size of the bus's filters, and the rules, by rising id of their connections and each connection's as they were added
+-- the size of the bus's filters, and the rules, by rising id of their connections and each
+-- connection's as they were added
 pub record Table : Type 0 where
   pub size : ℕ
   pub rules : List Rule
@@ -20,7 +21,7 @@ pub record Table : Type 0 where
 
 -- a rule admits where each of its conditions holds
 abbrev pub rule_admits : Told → Rule → Bool
-rule_admits t rule = all_of (holds t) rule.conditions
+rule_admits t rule = all_of (condition_holds t) rule.conditions
 
 -- the rules of a connection
 abbrev pub rules_of : ℕ → List Rule → List Rule
@@ -50,9 +51,13 @@ misnames (condition.NameChange old new name) = is_bad_name name
 misnames _ = false
 
 -- a mask of the condition has the size
-abbrev pub fits : ℕ → Condition → Bool
-fits size (condition.Mask mask) = is_sized size mask
-fits size _ = true
+abbrev pub mask_fits : ℕ → Condition → Bool
+mask_fits size (condition.Mask mask) = has_filter_size size mask
+mask_fits size _ = true
+
+-- each mask of the rule has the size
+abbrev pub rule_fits : ℕ → Rule → Bool
+rule_fits size rule = all_of (mask_fits size) rule.conditions
 
 -- ---- adding
 
@@ -61,30 +66,38 @@ abbrev pub is_named : ℕ → ℕ → Rule → Bool
 is_named id cookie rule = rule.id == id && rule.cookie == cookie
 
 -- the rules that stay where a rule is added: all but those that it replaces
-abbrev pub kept : List Rule → ℕ → ℕ → Bool → List Rule
-kept rules id cookie true = but_those (is_named id cookie) rules
-kept rules id cookie false = rules
+abbrev pub rules_left : List Rule → ℕ → ℕ → Bool → List Rule
+rules_left rules id cookie true = but_those (is_named id cookie) rules
+rules_left rules id cookie false = rules
+
+-- the connection has its 64 rules without those that the new one replaces
+abbrev pub has_all_rules : List Rule → ℕ → ℕ → Bool → Bool
+has_all_rules rules id cookie replace =
+    nat_le 64 (length (rules_of id (rules_left rules id cookie replace)))
 
 -- why no rule is added: at most 16 conditions in a rule, and 64 rules of a connection
-unfoldable pub add_refusal : Table → ℕ → ℕ → List Condition → Bool → Option Refusal
-add_refusal table id cookie conditions replace = first_that_holds
+unfoldable pub rule_refusal : Table → ℕ → ℕ → List Condition → Bool → Option Refusal
+rule_refusal table id cookie conditions replace = first_that_holds
     ((some_of misnames conditions, refusal.BadName)
-    ∷ (some_of (λ c. not (fits table.size c)) conditions, refusal.BloomSize)
+    ∷ (some_of (λ c. not (mask_fits table.size c)) conditions, refusal.BloomSize)
     ∷ (nat_lt 16 (length conditions), refusal.TooMany 16)
-    ∷ (nat_le 64 (length (rules_of id (kept table.rules id cookie replace))), refusal.TooMany 64)
+    ∷ (has_all_rules table.rules id cookie replace, refusal.TooMany 64)
     ∷ [])
 
-abbrev pub is_before : Rule → Rule → Bool
-is_before a b = nat_lt a.id b.id
+abbrev pub comes_before : Rule → Rule → Bool
+comes_before a b = nat_lt a.id b.id
 
 -- the rule stands behind the others of its connection
 unfoldable pub with_rule : Table → Rule → Bool → Table
-with_rule table rule replace = record table { rules = put_in_order is_before rule (kept table.rules rule.id rule.cookie replace) }
+with_rule table rule replace = record table {
+  rules = put_in_order comes_before rule (rules_left table.rules rule.id rule.cookie replace);
+}
 
 -- ---- removing
 
 abbrev pub remove_refusal : Table → ℕ → ℕ → Option Refusal
-remove_refusal table id cookie = if some_of (is_named id cookie) table.rules then None else Some refusal.NoSuchMatch
+remove_refusal table id cookie =
+    if some_of (is_named id cookie) table.rules then None else Some refusal.NoSuchMatch
 
 -- every rule of the connection with the cookie goes
 abbrev pub without_rules : Table → ℕ → ℕ → Table
@@ -95,12 +108,12 @@ abbrev pub without_conn : Table → ℕ → Table
 without_conn table id = record table { rules = but_those (λ (r : Rule). r.id == id) table.rules }
 
 -- the answer of a call that has such a refusal, or none
-abbrev pub answer : Option Refusal → Result (Unit {0}) Refusal
-answer None = Ok tt
-answer (Some r) = Err r
+abbrev pub result_of : Option Refusal → Result (Unit {0}) Refusal
+result_of None = Ok tt
+result_of (Some r) = Err r
 
 -- ---- what always holds of the table
 
 pub record IsTable (size : ℕ) (rules : List Rule) : Type 0 where
   pub in_order : IsNonDecreasingBy (λ (r : Rule). r.id) rules
-  pub sized : all_of (λ (r : Rule). all_of (fits size) r.conditions) rules ≡ true
+  pub sized : all_of (rule_fits size) rules ≡ true

@@ -2,28 +2,28 @@
 
 ghost use Rattle.std.specs.Prelude.{◌≡◌, IsTrue, not};
 ghost use Rattle.kd_model.specs.Words.{all_of, some_of};
-ghost use Rattle.kd_match.specs.Told.{fits_change, fits_id, fits_name, holds, owns, told};
-ghost use Rattle.kd_match.specs.Rules.{fits, has_filter, is_bad_name, misnames};
+ghost use Rattle.kd_match.specs.Told.{fits_change, fits_id, fits_name, condition_holds, owns, subject_told};
+ghost use Rattle.kd_match.specs.Rules.{mask_fits, has_filter, is_bad_name, misnames};
 
-use crate::subject::{Change, Subject};
+use crate::subject::Subject;
 use kd_bloom::{Mask, meets};
 use kd_name::is_name;
-use kd_types::{ConnId, Text};
+use kd_types::{ConnId, OwnerChange, Text};
 
 /// The id that fits any id.
 const ANY: u64 = u64::MAX;
 
-/// What a rule asks of a message or of a notice. A condition on messages is false of a notice, and the reverse. In those on notices
-/// an id of all ones fits any id, and an empty name any name.
+/// What a rule asks of a message or of a notice. A condition on messages is false of a notice, and
+/// the reverse. In both an id of all ones fits any id, and an empty name any name.
 #[derive(Debug, Drop)]
 pub enum Condition {
     /// A message's filter meets the mask.
     Mask(Mask),
-    /// A message's sender owns the name, or any name where this one is empty.
+    /// A message's sender owns the name; some name, where this one is empty.
     Name {
         name: Text,
     },
-    /// A message's sender has the id.
+    /// A message's sender has the id, or any where this one is all ones.
     Id {
         id: ConnId,
     },
@@ -57,11 +57,11 @@ pub enum Condition {
 
 impl Condition {
     /// Whether it holds of a message or a notice, whose filter has the size of its mask.
-    #[tactic(auto, unfolding(crate::specs::Told::holds))]
+    #[tactic(auto, unfolding(crate::specs::Told::condition_holds))]
     pub(crate) fn holds(&self, subject: &Subject, size: u32) -> bool
-        requires mask { IsTrue (fits size self.now) }
-        requires filter { IsTrue (has_filter size (told subject.now)) }
-        ensures { result ≡ holds (told subject.now) self.now }
+        requires mask { IsTrue (mask_fits size self.now) }
+        requires filter { IsTrue (has_filter size (subject_told subject.now)) }
+        ensures { result ≡ condition_holds (subject_told subject.now) self.now }
     {
         match (self, subject) {
             (
@@ -73,7 +73,7 @@ impl Condition {
                 },
             ) => meets(filter, *generation, mask),
             (Condition::Name { name }, Subject::Message { names, .. }) => owns(names, name),
-            (Condition::Id { id }, Subject::Message { source, .. }) => id == source,
+            (Condition::Id { id }, Subject::Message { source, .. }) => fits_id(*id, *source),
             (Condition::IdAdd { id }, Subject::IdAdd { id: came }) => fits_id(*id, *came),
             (Condition::IdRemove { id }, Subject::IdRemove { id: gone }) => fits_id(*id, *gone),
             (Condition::NameAdd { old, new, name }, Subject::NameAdd { change }) => fits_change(
@@ -102,7 +102,7 @@ impl Condition {
 
     /// Whether its mask, if it is one, has generations of this size.
     pub(crate) fn fits(&self, size: u32) -> bool
-        ensures { result ≡ fits size self.now }
+        ensures { result ≡ mask_fits size self.now }
     {
         match self {
             Condition::Mask(mask) => mask.is_sized(size),
@@ -120,16 +120,16 @@ pub(crate) fn misname(conditions: &[Condition]) -> bool
 
 /// Whether one of the conditions is a mask of another size.
 pub(crate) fn misfit(conditions: &[Condition], size: u32) -> bool
-    ensures { result ≡ some_of (λ c. not (fits size c)) conditions.now }
+    ensures { result ≡ some_of (λ c. not (mask_fits size c)) conditions.now }
 {
     conditions.iter().any(|condition| !condition.fits(size))
 }
 
 /// Whether all conditions hold of a message or a notice.
 pub(crate) fn all_hold(conditions: &[Condition], subject: &Subject, size: u32) -> bool
-    requires masks { IsTrue (all_of (fits size) conditions.now) }
-    requires filter { IsTrue (has_filter size (told subject.now)) }
-    ensures { result ≡ all_of (holds (told subject.now)) conditions.now }
+    requires masks { IsTrue (all_of (mask_fits size) conditions.now) }
+    requires filter { IsTrue (has_filter size (subject_told subject.now)) }
+    ensures { result ≡ all_of (condition_holds (subject_told subject.now)) conditions.now }
 {
     'conditions: for condition in conditions {
         if !condition.holds(subject, size) {
@@ -161,7 +161,7 @@ fn fits_name(wanted: &Text, name: &Text) -> bool
     wanted.bytes().is_empty() || *wanted == *name
 }
 
-fn fits_change(old: ConnId, new: ConnId, name: &Text, change: &Change) -> bool
+fn fits_change(old: ConnId, new: ConnId, name: &Text, change: &OwnerChange) -> bool
     ensures { result ≡ fits_change old new name.now change.now.old change.now.new change.now.name }
 {
     fits_id(old, change.old) && fits_id(new, change.new) && fits_name(name, &change.name)

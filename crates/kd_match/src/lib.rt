@@ -1,10 +1,11 @@
 //! The rules by which connections ask for broadcasts and notices.
 //!
-//! A rule is a cookie and a list of conditions, all of which have to hold; an empty list admits everything. A connection is shown
-//! what one of its rules admits. After the manual page kdbus.match.
+//! A rule is a cookie and a list of conditions, all of which have to hold; an empty list admits
+//! everything. A connection is shown what one of its rules admits. After the manual page
+//! kdbus.match.
 //!
-//! The table is one list in the order of the connections' ids, so that the rules of one connection lie together, in the order in
-//! which they were added:
+//! The table is one list in the order of the connections' ids, so that the rules of one connection
+//! lie together, in the order in which they were added:
 //!
 //! ```text
 //! id      3   3   3   8   8   12
@@ -25,5 +26,5 @@ mod table;
 pub use condition::Condition;
 pub use matches::Matches;
 pub use rule::{Conditions, Rule};
-pub use subject::{Change, Subject};
+pub use subject::Subject;
 pub use table::ROOM;

@@ -2,8 +2,8 @@
 
 ghost use Rattle.std.specs.Prelude.{◌≡◌, ◌<◌, ◌==◌, [], length, nat_le, IfOk, IsTrue, OnErr, OnOk};
 ghost use Rattle.kd_model.specs.Words.{some_of};
-ghost use Rattle.kd_match.specs.Told.{told};
-ghost use Rattle.kd_match.specs.Rules.{add_refusal, admits, answer, has_filter, is_named, kept, remove_refusal, rules_of, with_rule, without_conn, without_rules};
+ghost use Rattle.kd_match.specs.Told.{subject_told};
+ghost use Rattle.kd_match.specs.Rules.{rule_refusal, admits, result_of, has_filter, is_named, rules_left, remove_refusal, rules_of, with_rule, without_conn, without_rules};
 
 use crate::condition::{Condition, misfit, misname};
 use crate::rule::{Conditions, Rule};
@@ -17,7 +17,8 @@ use kd_types::{ConnId, Cookie, Refusal};
 use std::alloc::{AllocError, Global};
 use std::marker::Model;
 
-/// A rule that asks for more than so many things at once is refused, so that a broadcast's test stays short.
+/// A rule that asks for more than so many things at once is refused, so that a broadcast's test
+/// stays short.
 const CONDITIONS: usize = 16;
 
 /// The rules of one connection; the next one is refused. With 64 connections they are [`ROOM`].
@@ -39,7 +40,8 @@ impl Model for Matches {
 
     ghost view = { λ m. record { size = m.size; rules = m.rules.items } };
 
-    ghost invariant = { λ m. IsTable m.size m.rules.items × (m.size ≤ 512) × (4096 ≤ vec_capacity m.rules) };
+    ghost invariant = { λ m.
+        IsTable m.size m.rules.items × (m.size ≤ 512) × (4096 ≤ vec_capacity m.rules) };
 }
 
 impl Matches {
@@ -53,10 +55,11 @@ impl Matches {
         })
     }
 
-    /// What [`Matches::add`] would answer: BadName where a name of the conditions is neither empty nor a name, BloomSize where a mask
-    /// isn't of the bus's size, TooMany{16} at more than 16 conditions, and TooMany{64} where the connection has 64 rules already,
-    /// without those that are replaced.
-    #[tactic(auto, unfolding(crate::specs::Rules::add_refusal))]
+    /// What [`Matches::add`] would answer: BadName where a name of the conditions is neither empty
+    /// nor a name, BloomSize where a mask isn't of the bus's size, TooMany{16} at more than 16
+    /// conditions, and TooMany{64} where the connection has 64 rules already, without those that
+    /// are replaced.
+    #[tactic(auto, unfolding(crate::specs::Rules::rule_refusal))]
     pub fn may_add(
         &self,
         id: ConnId,
@@ -64,7 +67,7 @@ impl Matches {
         conditions: &[Condition],
         replace: bool,
     ) -> Result<(), Refusal>
-        ensures { result ≡ answer (add_refusal self.now id cookie conditions.now replace) }
+        ensures { result ≡ result_of (rule_refusal self.now id cookie conditions.now replace) }
     {
         if misname(conditions) {
             return Err(Refusal::BadName);
@@ -81,8 +84,8 @@ impl Matches {
         Ok(())
     }
 
-    /// Adds a rule of a connection, in place of its rules with the cookie where `replace` is set. The refusals are those of
-    /// [`Matches::may_add`], and then nothing changes.
+    /// Adds a rule of a connection, in place of its rules with the cookie where `replace` is set.
+    /// The refusals are those of [`Matches::may_add`], and then nothing changes.
     #[tactic(auto, unfolding(crate::specs::Rules::with_rule))]
     pub fn add(
         &mut self,
@@ -91,9 +94,15 @@ impl Matches {
         conditions: Vec<Condition>,
         replace: bool,
     ) -> Result<(), Refusal>
-        requires room { length (kept self.old.rules id cookie replace) < 4096 }
-        ensures answer { result ≡ answer (add_refusal self.old id cookie conditions.items replace) }
-        ensures added { OnOk result (self.new ≡ with_rule self.old (record { id = id; cookie = cookie; conditions = conditions.items }) replace) }
+        requires room { length (rules_left self.old.rules id cookie replace) < 4096 }
+        ensures answer { result
+            ≡ result_of (rule_refusal self.old id cookie conditions.items replace) }
+        ensures added { OnOk result (self.new
+            ≡ with_rule self.old (record {
+              id = id;
+              cookie = cookie;
+              conditions = conditions.items;
+            }) replace) }
         ensures unchanged { OnErr result (self.new ≡ self.old) }
     {
         self.may_add(id, cookie, &conditions, replace)?;
@@ -110,9 +119,10 @@ impl Matches {
         Ok(())
     }
 
-    /// What [`Matches::remove`] would answer: NoSuchMatch where the connection has no rule with the cookie.
+    /// What [`Matches::remove`] would answer: NoSuchMatch where the connection has no rule with the
+    /// cookie.
     pub fn may_remove(&self, id: ConnId, cookie: Cookie) -> Result<(), Refusal>
-        ensures { result ≡ answer (remove_refusal self.now id cookie) }
+        ensures { result ≡ result_of (remove_refusal self.now id cookie) }
     {
         if self.has(id, cookie) {
             Ok(())
@@ -123,7 +133,7 @@ impl Matches {
 
     /// Removes every rule of the connection with the cookie. At NoSuchMatch nothing changes.
     pub fn remove(&mut self, id: ConnId, cookie: Cookie) -> Result<(), Refusal>
-        ensures answer { result ≡ answer (remove_refusal self.old id cookie) }
+        ensures answer { result ≡ result_of (remove_refusal self.old id cookie) }
         ensures removed { OnOk result (self.new ≡ without_rules self.old id cookie) }
         ensures unchanged { OnErr result (self.new ≡ self.old) }
     {
@@ -139,11 +149,11 @@ impl Matches {
         remove_all(&mut self.rules, id);
     }
 
-    /// Whether a rule of the connection admits the message or the notice: whether each of its conditions holds. A message's filter
-    /// has the size of the bus's filters.
+    /// Whether a rule of the connection admits the message or the notice: whether each of its
+    /// conditions holds. A message's filter has the size of the bus's filters.
     pub fn admits(&self, id: ConnId, subject: &Subject) -> bool
-        requires filter { IsTrue (has_filter self.now.size (told subject.now)) }
-        ensures { result ≡ admits self.now id (told subject.now) }
+        requires filter { IsTrue (has_filter self.now.size (subject_told subject.now)) }
+        ensures { result ≡ admits self.now id (subject_told subject.now) }
     {
         any_admits(rules_of(&self.rules, id), subject, self.size)
     }
@@ -165,7 +175,7 @@ impl Matches {
     /// How many rules of the connection stay where a rule with the cookie is added.
     #[tactic(auto, using(crate::proofs::Kept::own_kept))]
     fn stay(&self, id: ConnId, cookie: Cookie, replace: bool) -> usize
-        ensures { result ≡ length (rules_of id (kept self.now.rules id cookie replace)) }
+        ensures { result ≡ length (rules_of id (rules_left self.now.rules id cookie replace)) }
     {
         let rules = rules_of(&self.rules, id);
         if replace {

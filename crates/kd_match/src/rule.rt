@@ -1,9 +1,8 @@
 //! A rule.
 
 ghost use Rattle.std.specs.Prelude.{◌≡◌, IsTrue, List};
-ghost use Rattle.kd_model.specs.Words.{all_of};
-ghost use Rattle.kd_match.specs.Told.{told};
-ghost use Rattle.kd_match.specs.Rules.{fits, has_filter, rule_admits};
+ghost use Rattle.kd_match.specs.Told.{subject_told};
+ghost use Rattle.kd_match.specs.Rules.{rule_fits, has_filter, rule_admits};
 
 use crate::condition::{Condition, all_hold};
 use crate::subject::Subject;
@@ -56,9 +55,9 @@ pub struct Rule {
 impl Rule {
     /// Whether each condition holds.
     pub(crate) fn admits(&self, subject: &Subject, size: u32) -> bool
-        requires masks { IsTrue (all_of (fits size) self.now.conditions) }
-        requires filter { IsTrue (has_filter size (told subject.now)) }
-        ensures { result ≡ rule_admits (told subject.now) self.now }
+        requires masks { IsTrue (rule_fits size self.now) }
+        requires filter { IsTrue (has_filter size (subject_told subject.now)) }
+        ensures { result ≡ rule_admits (subject_told subject.now) self.now }
     {
         all_hold(self.conditions.conditions(), subject, size)
     }

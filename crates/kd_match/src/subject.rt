@@ -1,17 +1,7 @@
 //! What rules are asked about.
 
 use kd_bloom::Bits;
-use kd_types::{ConnId, Text};
-
-/// A name that got another owner.
-#[derive(Debug, Drop)]
-pub struct Change {
-    pub name: Text,
-    /// The owner before, 0 for none.
-    pub old: ConnId,
-    /// The owner after, 0 for none.
-    pub new: ConnId,
-}
+use kd_types::{ConnId, OwnerChange, Text};
 
 /// A message or a notice, as rules see it.
 #[derive(Clone, Copy, Debug)]
@@ -36,14 +26,14 @@ pub enum Subject<'a> {
     },
     /// A name got an owner.
     NameAdd {
-        change: &'a Change,
+        change: &'a OwnerChange,
     },
     /// A name lost its owner.
     NameRemove {
-        change: &'a Change,
+        change: &'a OwnerChange,
     },
     /// A name went from one owner to another.
     NameChange {
-        change: &'a Change,
+        change: &'a OwnerChange,
     },
 }

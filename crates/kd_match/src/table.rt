@@ -4,9 +4,9 @@ ghost use Rattle.std.specs.Prelude.{◌≡◌, ◌<◌, ◌≤◌, length, nat_e
 ghost use Rattle.std.specs.Vec.{vec_capacity, vec_len};
 ghost use Rattle.std.specs.List.Sorted.{IsNonDecreasingBy};
 ghost use Rattle.kd_model.specs.Words.{all_of, but_those, put_in_order, some_of};
-ghost use Rattle.kd_match.specs.Told.{told};
+ghost use Rattle.kd_match.specs.Told.{subject_told};
 ghost use Rattle.kd_match.specs.declared.rule.Rule.{Rule};
-ghost use Rattle.kd_match.specs.Rules.{fits, has_filter, is_before, is_named, kept, rule_admits, rules_of};
+ghost use Rattle.kd_match.specs.Rules.{rule_fits, has_filter, comes_before, is_named, rules_left, rule_admits, rules_of};
 
 use crate::rule::Rule;
 use crate::subject::Subject;
@@ -30,7 +30,7 @@ pub(crate) fn rules_of(rules: &[Rule], id: ConnId) -> &[Rule]
 pub(crate) fn insert(rules: &mut Vec<Rule>, rule: Rule)
     requires order { IsNonDecreasingBy (λ (r : Rule). r.id) rules.old.items }
     requires room { vec_len rules.old < vec_capacity rules.old }
-    ensures items { rules.new.items ≡ put_in_order is_before rule rules.old.items }
+    ensures items { rules.new.items ≡ put_in_order comes_before rule rules.old.items }
     ensures order { IsNonDecreasingBy (λ (r : Rule). r.id) rules.new.items }
     ensures room { vec_capacity rules.old ≤ vec_capacity rules.new }
 {
@@ -48,7 +48,7 @@ pub(crate) fn remove_named(rules: &mut Vec<Rule>, id: ConnId, cookie: Cookie)
 
 /// Removes the rules that a new one replaces, if it is to.
 pub(crate) fn remove_replaced(rules: &mut Vec<Rule>, id: ConnId, cookie: Cookie, replace: bool)
-    ensures items { rules.new.items ≡ kept rules.old.items id cookie replace }
+    ensures items { rules.new.items ≡ rules_left rules.old.items id cookie replace }
     ensures room { vec_capacity rules.old ≤ vec_capacity rules.new }
 {
     if replace {
@@ -66,9 +66,9 @@ pub(crate) fn remove_all(rules: &mut Vec<Rule>, id: ConnId)
 
 /// Whether one of the rules admits a message or a notice.
 pub(crate) fn any_admits(rules: &[Rule], subject: &Subject, size: u32) -> bool
-    requires masks { IsTrue (all_of (λ (r : Rule). all_of (fits size) r.conditions) rules.now) }
-    requires filter { IsTrue (has_filter size (told subject.now)) }
-    ensures { result ≡ some_of (rule_admits (told subject.now)) rules.now }
+    requires masks { IsTrue (all_of (rule_fits size) rules.now) }
+    requires filter { IsTrue (has_filter size (subject_told subject.now)) }
+    ensures { result ≡ some_of (rule_admits (subject_told subject.now)) rules.now }
 {
     'rules: for rule in rules {
         if rule.admits(subject, size) {

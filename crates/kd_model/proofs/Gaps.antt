@@ -6,7 +6,7 @@ use Rattle.std.proofs.lemmas.Bool.Decides.{nat_tests}
 use Rattle.kd_model.specs.Words.{AnyOf}
 use Rattle.kd_model.specs.declared.placed.Gap.{Gap}
 use Rattle.kd_model.specs.declared.placed.Placed.{Placed}
-use Rattle.kd_model.specs.Slices.{AreInOrder, Book, IsClear, IsMaximal, IsSound, between, end_of, gaps, gaps_from}
+use Rattle.kd_model.specs.Slices.{AreInOrder, Book, IsClear, IsMaximal, IsSound, between, slice_end, gaps, gaps_from}
 use Rattle.kd_model.proofs.Lists.{all_follow, all_of_append}
 
 -- a maximal range from a place on
@@ -15,16 +15,16 @@ pub record IsMaximalFrom (from size : ℕ) (ss : List Placed) (g : Gap) : Type 0
   pub some : 0 < g.len
   pub inside : g.start + g.len ≤ size
   pub clear : AllByRecursion (IsClear g) ss
-  pub below : (g.start ≡ from) ⊎ AnyOf (λ (s : Placed). end_of s ≡ g.start) ss
+  pub below : (g.start ≡ from) ⊎ AnyOf (λ (s : Placed). slice_end s ≡ g.start) ss
   pub above : (g.start + g.len ≡ size) ⊎ AnyOf (λ (s : Placed). s.offset ≡ g.start + g.len) ss
 
-behind : (from size : ℕ) (ss : List Placed) → AreInOrder from size ss → AllByRecursion (λ (s : Placed). (from ≤ s.offset) × (0 < s.len) × (end_of s ≤ size)) ss
+behind : (from size : ℕ) (ss : List Placed) → AreInOrder from size ss → AllByRecursion (λ (s : Placed). (from ≤ s.offset) × (0 < s.len) × (slice_end s ≤ size)) ss
 behind from size [] o = tt
-behind from size (s ∷ ss) o = ((o.0, o.1, ends (end_of s) ss o.2), all_follow _ _ ss (λ t p. (omega arith, p.1, p.2)) (behind (end_of s) size ss o.2))
+behind from size (s ∷ ss) o = ((o.0, o.1, ends (slice_end s) ss o.2), all_follow _ _ ss (λ t p. (omega arith, p.1, p.2)) (behind (slice_end s) size ss o.2))
   where
     ends : (at : ℕ) (ts : List Placed) → AreInOrder at size ts → at ≤ size
     ends at [] o = o
-    ends at (t ∷ ts) o = let more = ends (end_of t) ts o.2 in omega arith
+    ends at (t ∷ ts) o = let more = ends (slice_end t) ts o.2 in omega arith
 
 -- a fact of some and a fact of each meet
 meets : {X : Type 0} (P Q : X → Type 0) (R : Type 0) (xs : List X) → ((x : X) → P x → Q x → R) → AllByRecursion P xs → AnyOf Q xs → R
@@ -43,9 +43,9 @@ all_maximal : (from size : ℕ) (ss : List Placed) → AreInOrder from size ss �
 all_maximal from size [] o =
     one_between _ from size (λ h. record { low = omega arith; some = omega arith; inside = omega arith; clear = tt; below = inl refl; above = inl (omega arith) })
 all_maximal from size (s ∷ ss) o =
-    let later = behind (end_of s) size ss o.2 in
-    let ends : end_of s ≤ size = (behind from size (s ∷ ss) o).0.2 in
-    all_of_append _ (between from s.offset) (gaps_from (end_of s) size ss)
+    let later = behind (slice_end s) size ss o.2 in
+    let ends : slice_end s ≤ size = (behind from size (s ∷ ss) o).0.2 in
+    all_of_append _ (between from s.offset) (gaps_from (slice_end s) size ss)
     (one_between _ from s.offset (λ h. record {
       low = omega arith;
       some = omega arith;
@@ -54,14 +54,14 @@ all_maximal from size (s ∷ ss) o =
       below = inl refl;
       above = inr (inl (omega arith));
     }))
-    (all_follow _ _ (gaps_from (end_of s) size ss) (λ g m. record {
+    (all_follow _ _ (gaps_from (slice_end s) size ss) (λ g m. record {
       low = omega (arith, m.low);
       some = m.some;
       inside = m.inside;
       clear = (inl m.low, m.clear);
       below = elim m.below [ inl e ↦ inr (inl (omega (arith, e))) | inr a ↦ inr (inr a) ];
       above = elim m.above [ inl e ↦ inl e | inr a ↦ inr (inr a) ];
-    }) (all_maximal (end_of s) size ss o.2))
+    }) (all_maximal (slice_end s) size ss o.2))
 
 in_between : (from upto : ℕ) (g : Gap) → g.start ≡ from → g.start + g.len ≡ upto → 0 < g.len → AnyOf (λ (h : Gap). h ≡ g) (between from upto)
 in_between from upto g e f some = go (nat_lt from upto) refl
@@ -84,12 +84,12 @@ any_right P (x ∷ xs) ys a = inr (any_right P xs ys a)
 
 any_maximal : (from size : ℕ) (ss : List Placed) (g : Gap) → AreInOrder from size ss → IsMaximalFrom from size ss g → AnyOf (λ (h : Gap). h ≡ g) (gaps_from from size ss)
 any_maximal from size [] g o m = elim m.below [ inr a ↦ absurd a | inl e ↦ elim m.above [ inr a ↦ absurd a | inl f ↦ in_between from size g e f m.some ] ]
-any_maximal from size (s ∷ ss) g o m = elim m.clear.0 [ inr c ↦ before c | inl c ↦ any_right _ (between from s.offset) (gaps_from (end_of s) size ss) (any_maximal (end_of s) size ss g o.2 (after c)) ]
+any_maximal from size (s ∷ ss) g o m = elim m.clear.0 [ inr c ↦ before c | inl c ↦ any_right _ (between from s.offset) (gaps_from (slice_end s) size ss) (any_maximal (slice_end s) size ss g o.2 (after c)) ]
   where
-    later : AllByRecursion (λ (t : Placed). (end_of s ≤ t.offset) × (0 < t.len) × (end_of t ≤ size)) ss
-    later = behind (end_of s) size ss o.2
+    later : AllByRecursion (λ (t : Placed). (slice_end s ≤ t.offset) × (0 < t.len) × (slice_end t ≤ size)) ss
+    later = behind (slice_end s) size ss o.2
 
-    ends : end_of s ≤ size
+    ends : slice_end s ≤ size
     ends = (behind from size (s ∷ ss) o).0.2
 
     first : g.start + g.len ≤ s.offset → g.start ≡ from
@@ -99,14 +99,14 @@ any_maximal from size (s ∷ ss) g o m = elim m.clear.0 [ inr c ↦ before c | i
       | inr (inr a) ↦ absurd (meets _ _ ⊥ ss (λ t p q. omega (arith, p.0, p.1)) later a)
     ]
 
-    before : g.start + g.len ≤ s.offset → AnyOf (λ (h : Gap). h ≡ g) (between from s.offset ++ gaps_from (end_of s) size ss)
+    before : g.start + g.len ≤ s.offset → AnyOf (λ (h : Gap). h ≡ g) (between from s.offset ++ gaps_from (slice_end s) size ss)
     before c = elim m.above [
       | inl f ↦ absurd (omega (arith, ends))
-      | inr (inl q) ↦ any_left _ (between from s.offset) (gaps_from (end_of s) size ss) (in_between from s.offset g (first c) (sym q) m.some)
+      | inr (inl q) ↦ any_left _ (between from s.offset) (gaps_from (slice_end s) size ss) (in_between from s.offset g (first c) (sym q) m.some)
       | inr (inr a) ↦ absurd (meets _ _ ⊥ ss (λ t p q. omega (arith, p.0)) later a)
     ]
 
-    after : end_of s ≤ g.start → IsMaximalFrom (end_of s) size ss g
+    after : slice_end s ≤ g.start → IsMaximalFrom (slice_end s) size ss g
     after c = record {
       low = c;
       some = m.some;

@@ -1,7 +1,7 @@
 -- What filters, finds and inserts in order keep.
 use Rattle.std.specs.Prelude.{◌≡◌, ℕ, Bool, true, false, cond, not, List, [], ◌∷◌, ◌++◌, length, map, nat_lt, Option, Some, None, filter, refl, unwrap_or}
-use Rattle.std.specs.List.{AllByRecursion, IsDistinct, find, insert, position, position_or_len, prefix_len}
-use Rattle.std.proofs.Common.{◌+◌, ap, arith, sym, ◌∙◌, ◌≤◌, ◌<◌, add-one, drop, get_or, suc}
+use Rattle.std.specs.List.{AllByRecursion, IsDistinct, find, insert, position, position_or_len, prefix_len, range_with_len}
+use Rattle.std.proofs.Common.{◌+◌, ap, arith, sym, ◌∙◌, ◌≤◌, ◌<◌, add-one, drop, get_or, suc, zero}
 use Rattle.std.proofs.Math.Seq.{drop-cons}
 use Rattle.std.proofs.lemmas.Bool.Decides.{nat_tests}
 use Rattle.std.proofs.lemmas.List.Sums.{prefix_len-le-length}
@@ -108,3 +108,38 @@ put_before below x xs = put_at_place below x xs ∙ ap (λ n. insert xs n x) (fi
 -- what is left at a place is the element there and what is left behind it
 pub rest_at : {X : Type 0} (xs : List X) (i : ℕ) (x : X) → i < length xs → x ≡ get_or xs i x → drop i xs ≡ x ∷ drop (i + 1) xs
 rest_at xs i x h e = drop-cons xs i x h ∙ ap (λ y. y ∷ drop (suc i) xs) (sym e) ∙ ap (λ n. x ∷ drop n xs) (sym (add-one i))
+
+-- what holds of each holds of one more
+pub all_of_push : {X : Type 0} (P : X → Type 0) (xs : List X) (x : X) → AllByRecursion P xs → P x → AllByRecursion P (xs ++ x ∷ [])
+all_of_push P [] x a h = (h, tt)
+all_of_push P (y ∷ xs) x a h = (a.0, all_of_push P xs x a.1 h)
+
+-- the numbers of a range are below its end
+pub range_below : (n from : ℕ) → AllByRecursion (λ k. k < from + n) (range_with_len from n)
+range_below zero from = tt
+range_below (suc n) from = (omega arith, all_follow _ _ _ (λ k h. omega arith) (range_below n (from + 1)))
+
+-- what holds of each that a map makes holds of each under it, and back
+pub all_under : {X Y : Type 0} (P : Y → Type 0) (f : X → Y) (xs : List X) → AllByRecursion P (map f xs) → AllByRecursion (λ x. P (f x)) xs
+all_under P f [] a = tt
+all_under P f (x ∷ xs) a = (a.0, all_under P f xs a.1)
+
+pub all_over : {X Y : Type 0} (P : Y → Type 0) (f : X → Y) (xs : List X) → AllByRecursion (λ x. P (f x)) xs → AllByRecursion P (map f xs)
+all_over P f [] a = tt
+all_over P f (x ∷ xs) a = (a.0, all_over P f xs a.1)
+
+-- what follows for each from two facts follows for all
+pub all_both : {X : Type 0} (P Q R : X → Type 0) (xs : List X) → ((x : X) → P x → Q x → R x) → AllByRecursion P xs → AllByRecursion Q xs → AllByRecursion R xs
+all_both P Q R [] f a b = tt
+all_both P Q R (x ∷ xs) f a b = (f x a.0 b.0, all_both P Q R xs f a.1 b.1)
+
+-- elements are apart under a map as what it makes of them is, and back
+pub distinct_under : {X Y : Type 0} (f : X → Y) (same : Y → Y → Bool) (xs : List X) → IsDistinct same (map f xs) → IsDistinct (λ a b. same (f a) (f b)) xs
+unfolding IsDistinct
+distinct_under f same [] d = tt
+distinct_under f same (x ∷ xs) d = (all_under (λ y. same (f x) y ≡ false) f xs d.0, distinct_under f same xs d.1)
+
+pub distinct_over : {X Y : Type 0} (f : X → Y) (same : Y → Y → Bool) (xs : List X) → IsDistinct (λ a b. same (f a) (f b)) xs → IsDistinct same (map f xs)
+unfolding IsDistinct
+distinct_over f same [] d = tt
+distinct_over f same (x ∷ xs) d = (all_over (λ y. same (f x) y ≡ false) f xs d.0, distinct_over f same xs d.1)

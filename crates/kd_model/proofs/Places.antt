@@ -12,8 +12,8 @@ use Rattle.kd_model.specs.Words.{but_those, put_in_order, those}
 use Rattle.kd_model.specs.declared.slice_no.TheConstants.{SLICES}
 use Rattle.kd_model.specs.declared.placed.Gap.{Gap}
 use Rattle.kd_model.specs.declared.placed.Placed.{Placed}
-use Rattle.kd_model.specs.Slices.{AreInOrder, Book, IsEven, IsSound, best_gap, between, empty_book, end_of, gaps, gaps_from, has_number, has_same_number, is_better, is_lower, is_placed, lowest_unused, place, unused_number, with_slice, without}
-use Rattle.kd_model.proofs.Lists.{all_follow, all_of_append, all_of_filter, all_of_found, all_of_put, distinct_of_filter, distinct_of_put, found_passes}
+use Rattle.kd_model.specs.Slices.{AreInOrder, Book, IsEven, IsSound, best_gap, between, empty_book, slice_end, gaps, gaps_from, has_number, has_same_number, is_better, is_lower, is_placed, lowest_unused, place, unused_number, with_slice, without_slice}
+use Rattle.kd_model.proofs.Lists.{all_follow, all_of_append, all_of_filter, all_of_found, all_of_put, distinct_of_filter, distinct_of_put, found_passes, range_below}
 use Rattle.kd_model.proofs.Least.{IsRanking, all_of_least}
 
 -- gaps rank by length, then start
@@ -29,7 +29,7 @@ gaps_rank = record { chains = chains; levels = levels }
 -- from a place on, one of the gaps begins at a place and holds a length
 abbrev pub HasRoom : ℕ → ℕ → List Placed → ℕ → ℕ → Type 0
 HasRoom from size [] at len = (at ≡ from) × (at + len ≤ size)
-HasRoom from size (s ∷ ss) at len = ((at ≡ from) × (at + len ≤ s.offset)) ⊎ HasRoom (end_of s) size ss at len
+HasRoom from size (s ∷ ss) at len = ((at ≡ from) × (at + len ≤ s.offset)) ⊎ HasRoom (slice_end s) size ss at len
 
 abbrev pub holds : ℕ → Gap → Bool
 holds len g = nat_le len g.len
@@ -49,15 +49,15 @@ between_holds from upto len h = outer (nat_lt from upto) refl
 pub gaps_have_room : (from size len : ℕ) (ss : List Placed) → 0 < len → AllByRecursion (λ (g : Gap). HasRoom from size ss g.start len) (those (holds len) (gaps_from from size ss))
 gaps_have_room from size len [] h = between_holds from size len h
 gaps_have_room from size len (s ∷ ss) h =
-    rw filter-append (all_of_append _ (those (holds len) (between from s.offset)) (those (holds len) (gaps_from (end_of s) size ss))
+    rw filter-append (all_of_append _ (those (holds len) (between from s.offset)) (those (holds len) (gaps_from (slice_end s) size ss))
     (all_follow _ _ _ (λ g p. inl p) (between_holds from s.offset len h))
-    (all_follow _ _ _ (λ g p. inr p) (gaps_have_room (end_of s) size len ss h)))
+    (all_follow _ _ _ (λ g p. inr p) (gaps_have_room (slice_end s) size len ss h)))
 
 -- what begins in one of the gaps from a place on begins there or behind
 room_above : (from size at len : ℕ) (ss : List Placed) → AreInOrder from size ss → HasRoom from size ss at len → from ≤ at
 room_above from size at len [] o r = omega arith
 room_above from size at len (s ∷ ss) o (inl r) = omega arith
-room_above from size at len (s ∷ ss) o (inr r) = let above = room_above (end_of s) size at len ss o.2 r in omega arith
+room_above from size at len (s ∷ ss) o (inr r) = let above = room_above (slice_end s) size at len ss o.2 r in omega arith
 
 gap_between : (from upto : ℕ) → sum_by (λ (g : Gap). g.len) (between from upto) ≡ upto - from
 gap_between from upto = go (nat_lt from upto) refl
@@ -77,9 +77,9 @@ order_with from size s (t ∷ ts) h o (inl r) =
     let low : is_lower s t ≡ true = lt-ltb s.offset t.offset (omega arith) in
     rw (low, put_in_order) (omega arith, h, (r.1, o.1, o.2))
 order_with from size s (t ∷ ts) h o (inr r) =
-    let above = room_above (end_of t) size s.offset s.len ts o.2 r in
+    let above = room_above (slice_end t) size s.offset s.len ts o.2 r in
     let high : is_lower s t ≡ false = grind (arith, nat_tests) in
-    rw (high, put_in_order) (o.0, o.1, order_with (end_of t) size s ts h o.2 r)
+    rw (high, put_in_order) (o.0, o.1, order_with (slice_end t) size s ts h o.2 r)
 
 -- slices stay in order from a lower place on
 order_below : (low from size : ℕ) (ss : List Placed) → low ≤ from → AreInOrder from size ss → AreInOrder low size ss
@@ -90,10 +90,10 @@ order_below low from size (s ∷ ss) h o = (omega arith, o.1, o.2)
 pub order_of_filter : (from size : ℕ) (p : Placed → Bool) (ss : List Placed) → AreInOrder from size ss → AreInOrder from size (filter p ss)
 order_of_filter from size p [] o = o
 order_of_filter from size p (s ∷ ss) o =
-    let rest = order_of_filter (end_of s) size p ss o.2 in
+    let rest = order_of_filter (slice_end s) size p ss o.2 in
     elim (p s) as (λ b. AreInOrder from size (cond b (s ∷ filter p ss) (filter p ss))) [
       | true ↦ (o.0, o.1, rest)
-      | false ↦ order_below from (end_of s) size (filter p ss) (omega arith) rest
+      | false ↦ order_below from (slice_end s) size (filter p ss) (omega arith) rest
     ]
 
 -- the gaps of slices at multiples of 8 begin at multiples of 8
@@ -104,15 +104,11 @@ gaps_are_even from size [] h e = one (nat_lt from size)
     one true = (h, tt)
     one false = tt
 gaps_are_even from size (s ∷ ss) h e =
-    all_of_append _ (between from s.offset) (gaps_from (end_of s) size ss) (one (nat_lt from s.offset)) (gaps_are_even (end_of s) size ss (omega arith) e.1)
+    all_of_append _ (between from s.offset) (gaps_from (slice_end s) size ss) (one (nat_lt from s.offset)) (gaps_are_even (slice_end s) size ss (omega arith) e.1)
   where
     one : (b : Bool) → AllByRecursion (λ (g : Gap). g.start % 8 ≡ 0) (elim b [ true ↦ record { start = from; len = s.offset - from } ∷ [] | false ↦ [] ])
     one true = (h, tt)
     one false = tt
-
-range_below : (n from : ℕ) → AllByRecursion (λ k. k < from + n) (range_with_len from n)
-range_below zero from = tt
-range_below (suc n) from = (omega arith, all_follow _ _ _ (λ k h. omega arith) (range_below n (from + 1)))
 
 -- an unused number is one of the pool's numbers
 pub unused_below : (b : Book) (n : ℕ) → unused_number b ≡ Some n → n < SLICES
@@ -195,7 +191,7 @@ sound_with b n at len s some eights num pl =
     }
 
 -- a book stays sound without a slice
-pub sound_without : (b : Book) (n : ℕ) → IsSound b → IsSound (without n b)
+pub sound_without : (b : Book) (n : ℕ) → IsSound b → IsSound (without_slice n b)
 sound_without b n s = record {
   eights = s.eights;
   order = order_of_filter 0 b.size _ b.slices s.order;
@@ -231,6 +227,6 @@ number_in_middle s (x ∷ xs) ys = go (has_number s.number x) (number_in_middle 
 pub order_is_whole : (from size : ℕ) (ss : List Placed) → AreInOrder from size ss → from + (sum_by (λ (s : Placed). s.len) ss + sum_by (λ (g : Gap). g.len) (gaps_from from size ss)) ≡ size
 order_is_whole from size [] o = rw (gap_between from size) (omega arith)
 order_is_whole from size (s ∷ ss) o =
-    let rest = order_is_whole (end_of s) size ss o.2 in
+    let rest = order_is_whole (slice_end s) size ss o.2 in
     let here = gap_between from s.offset in
     rw (sum_by-cons, sum_by-append, here) (omega arith)

@@ -1,2 +1,3 @@
 pub mod Slices
 pub mod Words
+pub mod Filters

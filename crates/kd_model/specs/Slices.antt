@@ -15,17 +15,18 @@ abbrev pub empty_book : ℕ → Book
 empty_book size = record { size = size; slices = [] }
 
 -- the first place behind a slice
-abbrev pub end_of : Placed → ℕ
-end_of s = s.offset + s.len
+abbrev pub slice_end : Placed → ℕ
+slice_end s = s.offset + s.len
 
 -- what lies from one place up to another: a gap, or nothing where they meet
 abbrev pub between : ℕ → ℕ → List Gap
-between from upto = elim (nat_lt from upto) [ true ↦ record { start = from; len = upto - from } ∷ [] | false ↦ [] ]
+between from upto =
+    elim (nat_lt from upto) [ true ↦ record { start = from; len = upto - from } ∷ [] | false ↦ [] ]
 
 -- the gaps from a place on, by rising start: before each slice, and behind the last
 abbrev pub gaps_from : ℕ → ℕ → List Placed → List Gap
 gaps_from at size [] = between at size
-gaps_from at size (s ∷ ss) = between at s.offset ++ gaps_from (end_of s) size ss
+gaps_from at size (s ∷ ss) = between at s.offset ++ gaps_from (slice_end s) size ss
 
 -- the gaps of a pool
 unfoldable pub gaps : Book → List Gap
@@ -55,8 +56,8 @@ abbrev pub is_placed : ℕ → Book → Bool
 is_placed n b = some_of (has_number n) b.slices
 
 -- the slice of a number
-abbrev pub entry : ℕ → Book → Option Placed
-entry n b = first (has_number n) b.slices
+abbrev pub slice_entry : ℕ → Book → Option Placed
+slice_entry n b = first (has_number n) b.slices
 
 -- the lowest number that none of some slices has; none where all are in use
 unfoldable pub lowest_unused : List Placed → Option ℕ
@@ -73,8 +74,8 @@ abbrev pub with_slice : Placed → Book → Book
 with_slice s b = record b { slices = put_in_order is_lower s b.slices }
 
 -- the book without a slice
-abbrev pub without : ℕ → Book → Book
-without n b = record b { slices = but_those (has_number n) b.slices }
+abbrev pub without_slice : ℕ → Book → Book
+without_slice n b = record b { slices = but_those (has_number n) b.slices }
 
 -- how many bytes the slices take
 abbrev pub used : Book → ℕ
@@ -84,16 +85,18 @@ used b = sum_by (λ (s : Placed). s.len) b.slices
 unfoldable pub largest_gap : Book → ℕ
 largest_gap b = fold (λ most (g : Gap). max most g.len) 0 (gaps b)
 
--- from a place on, each slice has some bytes and begins where the one before it ends or behind that, and the last one ends within the size
+-- from a place on, each slice has some bytes and begins where the one before it ends or behind
+-- that, and the last one ends within the size
 abbrev pub AreInOrder : ℕ → ℕ → List Placed → Type 0
 AreInOrder at size [] = at ≤ size
-AreInOrder at size (s ∷ ss) = (at ≤ s.offset) × (0 < s.len) × AreInOrder (end_of s) size ss
+AreInOrder at size (s ∷ ss) = (at ≤ s.offset) × (0 < s.len) × AreInOrder (slice_end s) size ss
 
 -- a slice lies at a multiple of 8 and takes a multiple of 8 bytes
 abbrev pub IsEven : Placed → Type 0
 IsEven s = (s.offset % 8 ≡ 0) × (s.len % 8 ≡ 0)
 
--- what each book keeps: ranges inside the pool that don't meet, at multiples of 8, under numbers that differ
+-- what each book keeps: ranges inside the pool that don't meet, at multiples of 8, under numbers
+-- that differ
 pub record IsSound (b : Book) : Type 0 where
   pub eights : b.size % 8 ≡ 0
   pub order : AreInOrder 0 b.size b.slices
@@ -103,12 +106,14 @@ pub record IsSound (b : Book) : Type 0 where
 
 -- a gap and a slice don't meet
 abbrev pub IsClear : Gap → Placed → Type 0
-IsClear g s = (end_of s ≤ g.start) ⊎ (g.start + g.len ≤ s.offset)
+IsClear g s = (slice_end s ≤ g.start) ⊎ (g.start + g.len ≤ s.offset)
 
--- a range of some bytes that meets no slice, and can't be longer: on both sides a slice or the pool ends it
+-- a range of some bytes that meets no slice, and can't be longer: on both sides a slice or the pool
+-- ends it
 pub record IsMaximal (b : Book) (g : Gap) : Type 0 where
   pub some : 0 < g.len
   pub inside : g.start + g.len ≤ b.size
   pub clear : AllByRecursion (IsClear g) b.slices
-  pub below : (g.start ≡ 0) ⊎ AnyOf (λ (s : Placed). end_of s ≡ g.start) b.slices
-  pub above : (g.start + g.len ≡ b.size) ⊎ AnyOf (λ (s : Placed). s.offset ≡ g.start + g.len) b.slices
+  pub below : (g.start ≡ 0) ⊎ AnyOf (λ (s : Placed). slice_end s ≡ g.start) b.slices
+  pub above :
+      (g.start + g.len ≡ b.size) ⊎ AnyOf (λ (s : Placed). s.offset ≡ g.start + g.len) b.slices

@@ -41,7 +41,11 @@ first = find
 -- the one that is below all others, the first of equals
 abbrev pub least : {X : Type 0} → (X → X → Bool) → List X → Option X
 least below [] = None
-least below (x ∷ xs) = elim (least below xs) [ None ↦ Some x | Some y ↦ elim (below y x) [ true ↦ Some y | false ↦ Some x ] ]
+least below (x ∷ xs) =
+    elim (least below xs) [
+      | None ↦ Some x
+      | Some y ↦ elim (below y x) [ true ↦ Some y | false ↦ Some x ]
+    ]
 
 -- the lesser of two, the first of equals
 abbrev pub lesser : {X : Type 0} → (X → X → Bool) → Option X → Option X → Option X
@@ -52,7 +56,8 @@ lesser below (Some x) (Some y) = elim (below y x) [ true ↦ Some y | false ↦ 
 -- put behind all that are not above it
 abbrev pub put_in_order : {X : Type 0} → (X → X → Bool) → X → List X → List X
 put_in_order below x [] = x ∷ []
-put_in_order below x (y ∷ ys) = elim (below x y) [ true ↦ x ∷ y ∷ ys | false ↦ y ∷ put_in_order below x ys ]
+put_in_order below x (y ∷ ys) =
+    elim (below x y) [ true ↦ x ∷ y ∷ ys | false ↦ y ∷ put_in_order below x ys ]
 
 abbrev pub in_order : {X : Type 0} → (X → X → Bool) → List X → List X
 in_order below [] = []

@@ -1,7 +1,7 @@
 //! The book of a pool's slices: who keeps it places slices and takes them back.
 
 ghost use Rattle.std.specs.Prelude.{◌≡◌, ◌↔◌, ◌<◌, ◌≤◌, ◌%◌, ℕ, [], IfOk, OnErr, None, Some, IsErrOf, IsTrue, ◌==◌, option_map};
-ghost use Rattle.kd_model.specs.Slices.{Book, IsSound, empty_book, entry, is_placed, largest_gap, place, unused_number, used, with_slice, without};
+ghost use Rattle.kd_model.specs.Slices.{Book, IsSound, empty_book, slice_entry, is_placed, largest_gap, place, unused_number, used, with_slice, without_slice};
 
 use crate::slice_no::SliceNo;
 use std::alloc::{AllocError, Global};
@@ -15,8 +15,8 @@ pub enum NoPlace {
     Full,
 }
 
-/// A book of the slices of one pool. A contract sees it as a [`Book`]: the pool's size, and the slices
-/// by rising offset. All calls but `make` take no memory.
+/// A book of the slices of one pool. A contract sees it as a [`Book`]: the pool's size, and the
+/// slices by rising offset. All calls but `make` take no memory.
 pub trait SliceBook {
     ghost book: { Self → Book };
 
@@ -25,14 +25,17 @@ pub trait SliceBook {
         requires eights { size % 8 ≡ 0 }
         ensures empty { IfOk result (λ b. book b ≡ empty_book size) };
 
-    /// Places a slice of `len` bytes at the front of the smallest gap that holds it, the lowest among
-    /// equals, and gives it the lowest unused number. Answers the number and the offset.
+    /// Places a slice of `len` bytes at the front of the smallest gap that holds it, the lowest
+    /// among equals, and gives it the lowest unused number. Answers the number and the offset.
     fn place(&mut self, len: u32) -> Result<(SliceNo, u32), NoPlace>
         requires some { 0 < len }
         requires eights { len % 8 ≡ 0 }
         ensures number { IfOk result (λ r. unused_number (book self.old) ≡ Some r.0) }
         ensures offset { IfOk result (λ r. place (book self.old) len ≡ Some r.1) }
-        ensures placed { IfOk result (λ r. book self.new ≡ with_slice (record { number = r.0; offset = r.1; len = len }) (book self.old)) }
+        ensures placed { IfOk result (λ r.
+            book self.new
+            ≡ with_slice (record { number = r.0; offset = r.1; len = len })
+            (book self.old)) }
         ensures spent { IsErrOf result NoPlace.Spent ↔ (unused_number (book self.old) ≡ None) }
         ensures full { IsErrOf result NoPlace.Full → place (book self.old) len ≡ None }
         ensures err { OnErr result (book self.new ≡ book self.old) }
@@ -41,12 +44,12 @@ pub trait SliceBook {
     /// Takes a slice back; its range joins the gaps beside it.
     fn give_back(&mut self, number: SliceNo)
         requires { IsTrue (is_placed number (book self.old)) }
-        ensures gone { book self.new ≡ without number (book self.old) }
+        ensures gone { book self.new ≡ without_slice number (book self.old) }
         ensures sound { IsSound (book self.new) };
 
     /// Offset and length of a slice, `None` where the number isn't placed.
     fn at(&self, number: SliceNo) -> Option<(u32, u32)>
-        ensures { result ≡ option_map (λ s. (s.offset, s.len)) (entry number (book self.now)) };
+        ensures { result ≡ option_map (λ s. (s.offset, s.len)) (slice_entry number (book self.now)) };
 
     /// How many bytes the slices take together.
     fn used(&self) -> u32

@@ -8,8 +8,8 @@
 //!     | slice 1 |  (gap)  |   slice 0   |   (gap)    |
 //! ```
 //!
-//! A new slice goes to the front of the smallest gap that holds it, the lowest among equals, and gets
-//! the lowest number that no slice has. Here one of 96 bytes would be slice 2 at 312.
+//! A new slice goes to the front of the smallest gap that holds it, the lowest among equals, and
+//! gets the lowest number that no slice has. Here one of 96 bytes would be slice 2 at 312.
 #![tactic(auto)]
 
 mod book;

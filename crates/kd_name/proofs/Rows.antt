@@ -1,5 +1,8 @@
 -- Examples, by computation.
 use Rattle.std.specs.Prelude.{◌≡◌, true, false, ◌++◌, Some, None, codes, replicate, refl}
+use Rattle.std.specs.Fmt.{digits}
+use Rattle.kd_name.specs.declared.bus_name.BusNameFault.TheVariants.{NoLabel, WrongPrefix}
+use Rattle.kd_name.specs.BusNames.{bus_name_fault}
 use Rattle.kd_name.specs.Names.{is_name, is_label}
 use Rattle.kd_name.specs.Patterns.{is_pattern, parent, covers}
 
@@ -56,3 +59,23 @@ label_with_dots = refl
 
 label_65 : is_label (replicate 65 97) ≡ false
 label_65 = refl
+
+of_its_user : bus_name_fault 1047 (codes "1047-foobar") ≡ None
+unfolding bus_name_fault digits
+of_its_user = refl
+
+of_another_user : bus_name_fault 1047 (codes "1024-foobar") ≡ Some WrongPrefix
+unfolding bus_name_fault digits
+of_another_user = refl
+
+of_no_user : bus_name_fault 1047 (codes "foobar") ≡ Some WrongPrefix
+unfolding bus_name_fault digits
+of_no_user = refl
+
+nothing_behind : bus_name_fault 1047 (codes "1047-") ≡ Some WrongPrefix
+unfolding bus_name_fault digits
+nothing_behind = refl
+
+no_label : bus_name_fault 1047 (codes "1024 foobar") ≡ Some NoLabel
+unfolding bus_name_fault digits
+no_label = refl

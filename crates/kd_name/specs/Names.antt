@@ -30,7 +30,9 @@ is_element e = not (is_empty e) && not (begins_with_digit e) && all_of is_name_b
 
 -- two or more elements with dots between them, in at most 255 bytes
 abbrev pub is_name : List ℕ → Bool
-is_name text = nat_le (length text) 255 && nat_le 2 (length (elements text)) && all_of is_element (elements text)
+is_name text =
+    nat_le (length text) 255 && nat_le 2 (length (elements text))
+    && all_of is_element (elements text)
 
 -- a byte of names or a dot
 abbrev pub is_label_byte : ℕ → Bool

@@ -22,12 +22,14 @@ last (e ∷ []) = e
 last (e ∷ f ∷ es) = last (f ∷ es)
 
 -- two or more pieces, of which the last is an element
-abbrev pub is_within : List (List ℕ) → Bool
-is_within es = nat_le 2 (length es) && is_element (last es)
+abbrev pub is_name_below : List (List ℕ) → Bool
+is_name_below es = nat_le 2 (length es) && is_element (last es)
 
 -- what stands before the last dot, where one element follows that dot
 abbrev pub parent : List ℕ → Option (List ℕ)
-parent n = if is_within (elements n) then Some (take (length n - length (last (elements n)) - 1) n) else None
+parent n =
+    if is_name_below (elements n) then Some (take (length n - length (last (elements n)) - 1) n)
+    else None
 
 -- the one pattern with a star that covers the text
 abbrev pub wildcard_of : List ℕ → Option (List ℕ)
@@ -43,4 +45,5 @@ covers p n = same p n || is_wildcard_of p n
 
 -- the same as a relation: p is n; or p is q and `.*`, and n is q, a dot and one element
 abbrev pub Covers : List ℕ → List ℕ → Type 0
-Covers p n = (p ≡ n) ⊎ ((q e : List ℕ) × IsTrue (is_element e) × (p ≡ q ++ codes ".*") × (n ≡ q ++ 46 ∷ e))
+Covers p n =
+    (p ≡ n) ⊎ ((q e : List ℕ) × IsTrue (is_element e) × (p ≡ q ++ codes ".*") × (n ≡ q ++ 46 ∷ e))

@@ -6,8 +6,8 @@ ghost use Rattle.kd_name.specs.Names.{is_label, is_label_byte};
 
 use crate::element::is_name_byte;
 
-/// The most bytes of a label, a bus's or an endpoint's: it is to stay short enough for one line of a
-/// configuration and for a table that is made with room for all of them.
+/// The most bytes of a label, a bus's or an endpoint's: it is to stay short enough for one line of
+/// a configuration and for a table that is made with room for all of them.
 pub const LABEL_LIMIT: usize = 64;
 
 /// Whether the text is a label: 1 to [`LABEL_LIMIT`] bytes of `A-Z a-z 0-9 _ - .` in any order.

@@ -9,8 +9,8 @@ use crate::name::is_name;
 /// What a wildcard ends in.
 const STAR: &[u8] = b".*";
 
-/// Whether the text is a wildcard: a name or a single element, followed by `.*`. The 255 bytes of a name
-/// are those before the `.*`, and a single element has no limit of its own.
+/// Whether the text is a wildcard: a name or a single element, followed by `.*`. The 255 bytes of a
+/// name are those before the `.*`, and a single element has no limit of its own.
 pub fn is_wildcard(text: &[u8]) -> bool
     ensures { result ≡ is_wildcard text.now }
 {
@@ -27,8 +27,8 @@ pub fn is_pattern(text: &[u8]) -> bool
     is_name(text) || is_wildcard(text)
 }
 
-/// What stands before the last dot, where one element follows that dot: with `.*` behind it, it is the one
-/// wildcard that covers the text.
+/// What stands before the last dot, where one element follows that dot: with `.*` behind it, it is
+/// the one wildcard that covers the text.
 pub fn parent(name: &[u8]) -> Option<&[u8]>
     ensures { option_map (λ q. q.now) result ≡ parent name.now }
 {
@@ -47,8 +47,8 @@ pub fn parent(name: &[u8]) -> Option<&[u8]>
     None
 }
 
-/// Whether the pattern covers the name: a pattern covers itself, and a wildcard each text that has exactly
-/// one element in the place of its star.
+/// Whether the pattern covers the name: a pattern covers itself, and a wildcard each text that has
+/// exactly one element in the place of its star.
 pub fn covers(pattern: &[u8], name: &[u8]) -> bool
     ensures answer { result ≡ covers pattern.now name.now }
     ensures meaning { IsTrue result ↔ Covers pattern.now name.now }

@@ -4,21 +4,18 @@ use Rattle.std.proofs.lemmas.Grind.{flat_map-append}
 use Rattle.std.proofs.lemmas.List.{map-append, take_more}
 use Rattle.std.proofs.lemmas.List.Elements.{filter-append}
 use Rattle.std.proofs.lemmas.List.Sums.{fold-append}
+use Rattle.kd_model.proofs.Truth.{or_false}
 use Rattle.kd_types.specs.declared.creds.Level.{Level}
 use Rattle.kd_types.specs.Words.{those, is_empty}
 use Rattle.kd_policy.specs.declared.entry.Entry.{Entry}
 use Rattle.kd_policy.specs.declared.granted.Granted.{Granted}
-use Rattle.kd_policy.specs.Level.{is_for, is_meant, fits, levels, greater}
+use Rattle.kd_policy.specs.Level.{is_for, is_meant, subject_fits, levels, greater}
 use Rattle.kd_policy.specs.declared.owner.Scope.{Scope}
 use Rattle.kd_policy.specs.Policy.{Held, Policy, is_in, list_of, part_of}
-use Rattle.kd_policy.specs.Granted.{nothing, and_these, and_among}
+use Rattle.kd_policy.specs.Granted.{nothing_granted, and_these, and_among}
 
 levels-append : (uid gid : ℕ) (xs ys : List Entry) → levels uid gid (xs ++ ys) ≡ levels uid gid xs ++ levels uid gid ys
-levels-append uid gid xs ys = rw (filter-append (fits uid gid) xs ys) (map-append (λ (e : Entry). e.level) (those (fits uid gid) xs) (those (fits uid gid) ys))
-
-or_false : (b : Bool) → b ≡ (b || false)
-or_false true = refl
-or_false false = refl
+levels-append uid gid xs ys = rw (filter-append (subject_fits uid gid) xs ys) (map-append (λ (e : Entry). e.level) (those (subject_fits uid gid) xs) (those (subject_fits uid gid) ys))
 
 some : (b : Bool) (xs ys : List Entry) → ((b || not (is_empty xs)) || not (is_empty ys)) ≡ (b || not (is_empty (xs ++ ys)))
 some true xs ys = refl
@@ -61,11 +58,11 @@ none_found found text uid gid =
     let named : found.named ≡ (found.named || not (is_empty (those (is_for text) []))) = or_false found.named in
     λ i. record { named = named i; level = found.level }
 
-pub holding_more : (s : Scope) (hs : Policy) (i : ℕ) (h : Held) (g : Granted) (text : List ℕ) (uid gid : ℕ) → i < length hs → h ≡ get_or hs i h → g ≡ and_among nothing (list_of s (take i hs)) text uid gid → and_among g (part_of s h) text uid gid ≡ and_among nothing (list_of s (take (i + 1) hs)) text uid gid
+pub holding_more : (s : Scope) (hs : Policy) (i : ℕ) (h : Held) (g : Granted) (text : List ℕ) (uid gid : ℕ) → i < length hs → h ≡ get_or hs i h → g ≡ and_among nothing_granted (list_of s (take i hs)) text uid gid → and_among g (part_of s h) text uid gid ≡ and_among nothing_granted (list_of s (take (i + 1) hs)) text uid gid
 holding_more s hs i h g text uid gid lt is found =
     ap (λ x. and_among x (part_of s h) text uid gid) found
-    ∙ among-append nothing (list_of s (take i hs)) (part_of s h) text uid gid
-    ∙ ap (λ es. and_among nothing es text uid gid) (sym (list_more s hs i h lt is))
+    ∙ among-append nothing_granted (list_of s (take i hs)) (part_of s h) text uid gid
+    ∙ ap (λ es. and_among nothing_granted es text uid gid) (sym (list_more s hs i h lt is))
 
 -- an owner's part of a list is nothing, or all that it has
 pub part_out : (s : Scope) (h : Held) → is_in s h.owner ≡ false → part_of s h ≡ []

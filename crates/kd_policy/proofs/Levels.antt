@@ -1,11 +1,12 @@
 -- The level on a name, from what is found for the name and for its wildcard.
 use Rattle.std.proofs.Common.{◌≡◌, ℕ, Bool, true, false, cond, not, ◌||◌, List, [], ◌∷◌, ◌++◌, filter, Option, Some, None, option_map, codes, refl, sym, ap, ◌∙◌}
+use Rattle.kd_model.proofs.Truth.{both_false}
 use Rattle.kd_types.specs.Words.{same, some_of, is_empty}
 use Rattle.kd_name.specs.Patterns.{is_wildcard_of, parent, wildcard_of}
 use Rattle.kd_policy.specs.declared.entry.Entry.{Entry}
 use Rattle.kd_policy.specs.declared.granted.Granted.{Granted}
 use Rattle.kd_policy.specs.Level.{is_for, covers_name, level_of}
-use Rattle.kd_policy.specs.Granted.{nothing, and_among}
+use Rattle.kd_policy.specs.Granted.{nothing_granted, and_among}
 
 -- whether some entry passes, and whether a filter leaves one
 some_left : (p : Entry → Bool) (es : List Entry) → some_of p es ≡ not (is_empty (filter p es))
@@ -13,20 +14,12 @@ some_left p [] = refl
 some_left p (e ∷ es) =
     elim (p e) as (λ b. (b || some_of p es) ≡ not (is_empty (cond b (e ∷ filter p es) (filter p es)))) [ true ↦ refl | false ↦ some_left p es ]
 
-negated : (b : Bool) → not b ≡ false → b ≡ true
-negated true e = refl
-negated false e = cc
-
 -- an entry for the very name
-pub exact : (es : List Entry) (name : List ℕ) (uid gid : ℕ) → (and_among nothing es name uid gid).named ≡ true → level_of es name uid gid ≡ (and_among nothing es name uid gid).level
+pub exact : (es : List Entry) (name : List ℕ) (uid gid : ℕ) → (and_among nothing_granted es name uid gid).named ≡ true → level_of es name uid gid ≡ (and_among nothing_granted es name uid gid).level
 unfolding level_of and_among
 exact es name uid gid e =
     let named : some_of (is_for name) es ≡ true = some_left (is_for name) es ∙ e in
     rw named refl
-
-both_false : (a b : Bool) → (a || b) ≡ false → (a ≡ false) × (b ≡ false)
-both_false true b e = cc
-both_false false b e = (refl, e)
 
 by_wildcard : (p name : List ℕ) (o : Option (List ℕ)) → wildcard_of name ≡ o → is_wildcard_of p name ≡ elim o [ Some w ↦ same p w | None ↦ false ]
 by_wildcard p name o is = ap (λ (v : Option (List ℕ)). elim v [ Some w ↦ same p w | None ↦ false ]) is
@@ -54,38 +47,38 @@ uncovered (e ∷ es) name is none =
     let other = both_false (is_for name e) (some_of (is_for name) es) none in
     ap (λ b. cond b (e ∷ filter (covers_name name) es) (filter (covers_name name) es)) (none_covers e name is other.0) ∙ uncovered es name is other.1
 
-unnamed : (es : List Entry) (name : List ℕ) (uid gid : ℕ) → (and_among nothing es name uid gid).named ≡ false → some_of (is_for name) es ≡ false
+unnamed : (es : List Entry) (name : List ℕ) (uid gid : ℕ) → (and_among nothing_granted es name uid gid).named ≡ false → some_of (is_for name) es ≡ false
 unfolding and_among
 unnamed es name uid gid e = some_left (is_for name) es ∙ e
 
 -- no entry for the very name, and its wildcard
-pub wild : (es : List Entry) (name w : List ℕ) (uid gid : ℕ) → (and_among nothing es name uid gid).named ≡ false → wildcard_of name ≡ Some w → level_of es name uid gid ≡ (and_among nothing es w uid gid).level
+pub wild : (es : List Entry) (name w : List ℕ) (uid gid : ℕ) → (and_among nothing_granted es name uid gid).named ≡ false → wildcard_of name ≡ Some w → level_of es name uid gid ≡ (and_among nothing_granted es w uid gid).level
 unfolding level_of and_among
 wild es name w uid gid e is =
     let none : some_of (is_for name) es ≡ false = unnamed es name uid gid e in
     rw (none, covered es name w is none) refl
 
 -- nor a wildcard that covers it
-pub neither : (es : List Entry) (name : List ℕ) (uid gid : ℕ) → (and_among nothing es name uid gid).named ≡ false → wildcard_of name ≡ None → level_of es name uid gid ≡ None
+pub neither : (es : List Entry) (name : List ℕ) (uid gid : ℕ) → (and_among nothing_granted es name uid gid).named ≡ false → wildcard_of name ≡ None → level_of es name uid gid ≡ None
 unfolding level_of and_among
 neither es name uid gid e is =
     let none : some_of (is_for name) es ≡ false = unnamed es name uid gid e in
     rw (none, uncovered es name is none) refl
 
 -- the same of what was found, whatever the name is spelt as
-pub told_exact : (es : List Entry) (name text : List ℕ) (uid gid : ℕ) (g : Granted) → g ≡ and_among nothing es text uid gid → text ≡ name → g.named ≡ true → g.level ≡ level_of es name uid gid
+pub told_exact : (es : List Entry) (name text : List ℕ) (uid gid : ℕ) (g : Granted) → g ≡ and_among nothing_granted es text uid gid → text ≡ name → g.named ≡ true → g.level ≡ level_of es name uid gid
 told_exact es name text uid gid g is same named =
-    let found : g ≡ and_among nothing es name uid gid = is ∙ ap (λ t. and_among nothing es t uid gid) same in
+    let found : g ≡ and_among nothing_granted es name uid gid = is ∙ ap (λ t. and_among nothing_granted es t uid gid) same in
     ap (λ (x : Granted). x.level) found ∙ sym (exact es name uid gid (ap (λ (x : Granted). x.named) (sym found) ∙ named))
 
-pub told_wild : (es : List Entry) (name text w : List ℕ) (uid gid : ℕ) (g h : Granted) → g ≡ and_among nothing es text uid gid → text ≡ name → g.named ≡ false → wildcard_of name ≡ Some w → h ≡ and_among nothing es w uid gid → h.level ≡ level_of es name uid gid
+pub told_wild : (es : List Entry) (name text w : List ℕ) (uid gid : ℕ) (g h : Granted) → g ≡ and_among nothing_granted es text uid gid → text ≡ name → g.named ≡ false → wildcard_of name ≡ Some w → h ≡ and_among nothing_granted es w uid gid → h.level ≡ level_of es name uid gid
 told_wild es name text w uid gid g h is same named covering by =
-    let found : g ≡ and_among nothing es name uid gid = is ∙ ap (λ t. and_among nothing es t uid gid) same in
+    let found : g ≡ and_among nothing_granted es name uid gid = is ∙ ap (λ t. and_among nothing_granted es t uid gid) same in
     ap (λ (x : Granted). x.level) by ∙ sym (wild es name w uid gid (ap (λ (x : Granted). x.named) (sym found) ∙ named) covering)
 
-pub told_neither : (es : List Entry) (name text : List ℕ) (uid gid : ℕ) (g : Granted) → g ≡ and_among nothing es text uid gid → text ≡ name → g.named ≡ false → wildcard_of name ≡ None → level_of es name uid gid ≡ None
+pub told_neither : (es : List Entry) (name text : List ℕ) (uid gid : ℕ) (g : Granted) → g ≡ and_among nothing_granted es text uid gid → text ≡ name → g.named ≡ false → wildcard_of name ≡ None → level_of es name uid gid ≡ None
 told_neither es name text uid gid g is same named covering =
-    let found : g ≡ and_among nothing es name uid gid = is ∙ ap (λ t. and_among nothing es t uid gid) same in
+    let found : g ≡ and_among nothing_granted es name uid gid = is ∙ ap (λ t. and_among nothing_granted es t uid gid) same in
     neither es name uid gid (ap (λ (x : Granted). x.named) (sym found) ∙ named) covering
 
 -- the wildcard of a name whose parent is known

@@ -30,8 +30,8 @@ is_meant uid gid (Group g) = g == gid
 is_meant uid gid World = true
 
 -- the entry is for these credentials
-abbrev pub fits : ℕ → ℕ → Entry → Bool
-fits uid gid e = is_meant uid gid e.subject
+abbrev pub subject_fits : ℕ → ℕ → Entry → Bool
+subject_fits uid gid e = is_meant uid gid e.subject
 
 -- the entry's pattern is this text, byte for byte
 abbrev pub is_for : List ℕ → Entry → Bool
@@ -41,13 +41,15 @@ is_for text e = same e.pattern text
 abbrev pub covers_name : List ℕ → Entry → Bool
 covers_name name e = covers e.pattern name
 
--- the entries that count for a name: those with the name as their pattern, whoever they are for; where there is none, those that cover it
+-- the entries that count for a name: those with the name as their pattern, whoever they are for;
+-- where there is none, those that cover it
 abbrev pub counting : List Entry → List ℕ → List Entry
-counting es name = if some_of (is_for name) es then those (is_for name) es else those (covers_name name) es
+counting es name =
+    if some_of (is_for name) es then those (is_for name) es else those (covers_name name) es
 
 -- the levels that some entries give these credentials
 abbrev pub levels : ℕ → ℕ → List Entry → List Level
-levels uid gid es = map (λ (e : Entry). e.level) (those (fits uid gid) es)
+levels uid gid es = map (λ (e : Entry). e.level) (those (subject_fits uid gid) es)
 
 -- the greatest level that the entries that count give these credentials
 unfoldable pub level_of : List Entry → List ℕ → ℕ → ℕ → Option Level

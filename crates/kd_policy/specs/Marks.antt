@@ -13,9 +13,9 @@ unfoldable pub mark_of : List ℕ → ℕ
 mark_of text = fold next_mark 0 text
 
 -- the mark is set: 64 of them stand in a word
-unfoldable pub has_mark : List ℕ → ℕ → Bool
-has_mark words mark = bit_at (slice_index words (mark / 64)) (mark % 64) == 1
+unfoldable pub mark_is_set : List ℕ → ℕ → Bool
+mark_is_set words mark = bit_at (slice_index words (mark / 64)) (mark % 64) == 1
 
 -- the mark of each entry's pattern is set
 abbrev pub AreMarked : List ℕ → List Entry → Type 0
-AreMarked words es = AllByRecursion (λ (e : Entry). has_mark words (mark_of e.pattern) ≡ true) es
+AreMarked words es = AllByRecursion (λ (e : Entry). mark_is_set words (mark_of e.pattern) ≡ true) es

@@ -83,7 +83,11 @@ with_held p h = elim (place_of p h.owner) [ Some i ↦ slice_set p i h | None �
 
 -- the policy after the entries were put, or not
 unfoldable pub after_put : Policy → Owner → List Entry → Policy
-after_put p o es = elim (put_refusal o es) [ Some refusal ↦ p | None ↦ with_held p (record { owner = o; entries = by_pattern es }) ]
+after_put p o es =
+    elim (put_refusal o es) [
+      | Some refusal ↦ p
+      | None ↦ with_held p (record { owner = o; entries = by_pattern es })
+    ]
 
 -- the policy without the owner and its entries
 unfoldable pub after_drop : Policy → Owner → Policy

@@ -8,7 +8,8 @@ use kd_types::{Level, Text};
 /// Grants a subject a level on names.
 #[derive(Debug, PartialEq, Eq, Drop)]
 pub struct Entry {
-    /// Which names: a name for that name alone, a wildcard as `org.example.*` for those with one element more.
+    /// Which names: a name for that name alone, a wildcard as `org.example.*` for those with one
+    /// element more.
     pub pattern: Text,
     /// Whom it is for.
     pub subject: Subject,

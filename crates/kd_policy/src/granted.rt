@@ -34,7 +34,8 @@ impl Granted {
 
 /// The level with that of the entry, where it is for this user and group.
 fn raised(level: Option<Level>, entry: &Entry, uid: u32, gid: u32) -> Option<Level>
-    ensures { result ≡ (if is_meant uid gid entry.now.subject then greater level entry.now.level else level) }
+    ensures { result
+        ≡ (if is_meant uid gid entry.now.subject then greater level entry.now.level else level) }
 {
     if entry.subject.is_meant(uid, gid) {
         Some(greater(level, entry.level))

@@ -30,7 +30,8 @@ impl Model for Holding {
 
     ghost view = { λ h. record { owner = h.owner; entries = h.entries.items } };
 
-    ghost invariant = { λ h. IsByPattern h.entries.items × AreMarked h.marks.words h.entries.items };
+    ghost invariant = { λ h.
+        IsByPattern h.entries.items × AreMarked h.marks.words h.entries.items };
 }
 
 impl Holding {
@@ -61,8 +62,8 @@ impl Holding {
         self.entries
     }
 
-    /// What is found with those of the entries whose pattern is `front` with `back` behind it, if they stand in this list. `mark` is the
-    /// mark of that pattern.
+    /// What is found with those of the entries whose pattern is `front` with `back` behind it, if
+    /// they stand in this list. `mark` is the mark of that pattern.
     pub(crate) fn grant(
         &self,
         found: Granted,
@@ -75,7 +76,8 @@ impl Holding {
     ) -> Granted
         requires marked { mark ≡ mark_of (front.now ++ back.now) }
         requires inside { mark < 8191 }
-        ensures { result ≡ and_among found (part_of scope self.now) (front.now ++ back.now) uid gid }
+        ensures { result
+            ≡ and_among found (part_of scope self.now) (front.now ++ back.now) uid gid }
     {
         if !scope.has(&self.owner) {
             return found;

@@ -1,16 +1,18 @@
 //! Marks of patterns: a coarse test that spares most searches.
 
 ghost use Rattle.std.specs.Prelude.{◌≡◌, ℕ, ◌<◌, ◌++◌, true, fold};
-ghost use Rattle.kd_policy.specs.Marks.{next_mark, mark_of, has_mark, AreMarked};
+ghost use Rattle.kd_policy.specs.Marks.{next_mark, mark_of, mark_is_set, AreMarked};
 
 use crate::entry::Entry;
 use crate::order::NOTHING;
 
-/// How many words of 64 marks there are. With some 32 marks for each of the 256 entries that an owner may have, one search in 32 for a
-/// pattern that the owner doesn't have is made in vain, and the marks of all owners still fit a processor's cache.
+/// How many words of 64 marks there are. With some 32 marks for each of the 256 entries that an
+/// owner may have, one search in 32 for a pattern that the owner doesn't have is made in vain, and
+/// the marks of all owners still fit a processor's cache.
 const WORDS: usize = 128;
 
-/// The marks of an owner's patterns. Where the mark of a pattern isn't set the owner doesn't have it: a Bloom filter of one hash.
+/// The marks of an owner's patterns. Where the mark of a pattern isn't set the owner doesn't have
+/// it: a Bloom filter of one hash.
 #[derive(Debug, Drop)]
 pub(crate) struct Marks {
     words: [u64; WORDS],
@@ -31,17 +33,18 @@ impl Marks {
     /// Sets one mark.
     fn set(&mut self, mark: usize)
         requires { mark < 8191 }
-        ensures set { has_mark self.new.words mark ≡ true }
-        ensures kept { (other : ℕ) → has_mark self.old.words other ≡ true → has_mark self.new.words other ≡ true }
+        ensures set { mark_is_set self.new.words mark ≡ true }
+        ensures kept { (other : ℕ) → mark_is_set self.old.words other ≡ true
+            → mark_is_set self.new.words other ≡ true }
     {
         self.words[mark / 64] |= 1 << (mark % 64);
     }
 
     /// Whether it is set.
-    #[tactic(auto, using(std::proofs::lemmas::Nat::Bits::shr_and_one), unfolding(crate::specs::Marks::has_mark))]
+    #[tactic(auto, using(std::proofs::lemmas::Nat::Bits::shr_and_one), unfolding(crate::specs::Marks::mark_is_set))]
     pub(crate) fn has(&self, mark: usize) -> bool
         requires { mark < 8191 }
-        ensures { result ≡ has_mark self.now.words mark }
+        ensures { result ≡ mark_is_set self.now.words mark }
     {
         (self.words[mark / 64] >> (mark % 64)) & 1 == 1
     }

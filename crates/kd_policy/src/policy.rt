@@ -2,10 +2,10 @@
 
 ghost use Rattle.std.specs.Prelude.{◌≡◌, ◌+◌, ◌<◌, ◌≤◌, ◌++◌, None, Some, [], length, vec_len, IfOk, IfSome, OnOk, OnErr, MatchResult};
 ghost use Rattle.std.specs.Vec.{vec_capacity};
-ghost use Rattle.kd_policy.specs.Granted.{nothing, and_among};
+ghost use Rattle.kd_policy.specs.Granted.{found_in};
 ghost use Rattle.kd_types.specs.Words.{but_those, some_of};
 ghost use Rattle.kd_policy.specs.Order.{IsByPattern};
-ghost use Rattle.kd_policy.specs.Policy.{is_held_by, list_of, level_in, place_of, put_refusal, entries_of, with_held, after_put, after_drop, is_ill_named, has_star};
+ghost use Rattle.kd_policy.specs.Policy.{is_held_by, level_in, place_of, put_refusal, entries_of, with_held, after_put, after_drop, is_ill_named, has_star};
 
 use crate::entry::Entry;
 use crate::granted::Granted;
@@ -19,13 +19,16 @@ use std::alloc::{AllocError, Global};
 use std::marker::Model;
 use std::mem;
 
-/// The most owners: one for each of a bus's 64 seats, and one for each of the 8 endpoints that it may have beside the default one.
+/// The most owners: one for each of a bus's 64 seats, and one for each of the 8 endpoints that it
+/// may have beside the default one.
 pub const OWNERS: usize = 72;
 
-/// The most entries of one owner: the list is looked through while the bus is held, and one more is refused.
+/// The most entries of one owner: the list is looked through while the bus is held, and one more is
+/// refused.
 pub const ENTRIES: usize = 256;
 
-/// The policy of a bus. A contract sees it as the list of its owners, each with its entries by their patterns.
+/// The policy of a bus. A contract sees it as the list of its owners, each with its entries by
+/// their patterns.
 #[derive(Debug, Drop)]
 pub struct PolicyDb {
     holdings: Vec<Holding>,
@@ -42,11 +45,13 @@ impl Model for PolicyDb {
 
     ghost view = { λ p. p.holdings.items };
 
-    ghost invariant = { λ p. (72 ≤ vec_capacity p.holdings) × (256 ≤ vec_capacity p.sorting) × (p.sorting.items ≡ []) };
+    ghost invariant = { λ p.
+        (72 ≤ vec_capacity p.holdings) × (256 ≤ vec_capacity p.sorting) × (p.sorting.items ≡ []) };
 }
 
 impl PolicyDb {
-    /// The policy without entries. All memory that later calls need is taken now: room for 72 owners, and to sort the entries of one.
+    /// The policy without entries. All memory that later calls need is taken now: room for 72
+    /// owners, and to sort the entries of one.
     pub fn make(alloc: Global) -> Result<PolicyDb, AllocError>
         ensures empty { IfOk result (λ p. p ≡ []) }
     {
@@ -56,9 +61,11 @@ impl PolicyDb {
         })
     }
 
-    /// Gives the owner these entries in place of those that it had, which are handed back. It is refused where a pattern is none
-    /// (`BadName`), where an endpoint is to have a wildcard (`BadFlags`), and where there are more than 256 entries (`TooMany`); a
-    /// refusal changes nothing. There must be room for one more owner, or the owner has entries already. It takes no memory.
+    /// Gives the owner these entries in place of those that it had, which are handed back. It is
+    /// refused where a pattern is none (`BadName`), where an endpoint is to have a wildcard
+    /// (`BadFlags`), and where there are more than 256 entries (`TooMany`); a refusal changes
+    /// nothing. There must be room for one more owner, or the owner has entries already. It takes
+    /// no memory.
     #[tactic(auto, unfolding(crate::specs::Policy::after_put))]
     pub fn put(&mut self, owner: Owner, entries: Vec<Entry>) -> Result<Vec<Entry>, Refusal>
         requires room { place_of self.old owner ≡ None → length self.old < 72 }
@@ -92,8 +99,9 @@ impl PolicyDb {
         keep_others(&mut self.holdings, &owner);
     }
 
-    /// The level that the list grants these credentials on the name: the greatest of those entries that have the name as their
-    /// pattern, or, where there is none, of those whose wildcard covers it. None where no such entry is for the credentials.
+    /// The level that the list grants these credentials on the name: the greatest of those entries
+    /// that have the name as their pattern, or, where there is none, of those whose wildcard covers
+    /// it. None where no such entry is for the credentials.
     pub fn level(&self, scope: Scope, name: &[u8], uid: u32, gid: u32) -> Option<Level>
         ensures { result ≡ level_in self.now scope name.now uid gid }
     {
@@ -107,7 +115,7 @@ impl PolicyDb {
 
     /// What the list has on the pattern that is `front` with `back` behind it.
     fn granted(&self, scope: Scope, front: &[u8], back: &[u8], uid: u32, gid: u32) -> Granted
-        ensures { result ≡ and_among nothing (list_of scope self.now) (front.now ++ back.now) uid gid }
+        ensures { result ≡ found_in self.now scope (front.now ++ back.now) uid gid }
     {
         let mark = mark_of(front, back);
         let mut found = Granted {
@@ -141,12 +149,14 @@ fn judge(owner: &Owner, entries: &[Entry]) -> Result<(), Refusal>
     Ok(())
 }
 
-/// Puts these sorted entries in the place of those that the owner has, or behind all others, and hands back what it had.
+/// Puts these sorted entries in the place of those that the owner has, or behind all others, and
+/// hands back what it had.
 fn exchange(holdings: &mut Vec<Holding>, owner: Owner, entries: Vec<Entry>) -> Vec<Entry>
     requires sorted { IsByPattern entries.items }
     requires room { place_of holdings.old.items owner ≡ None
         → vec_len holdings.old < vec_capacity holdings.old }
-    ensures after { holdings.new.items ≡ with_held holdings.old.items (record { owner = owner; entries = entries.items }) }
+    ensures after { holdings.new.items
+        ≡ with_held holdings.old.items (record { owner = owner; entries = entries.items }) }
     ensures old { result.items ≡ entries_of holdings.old.items owner }
     ensures count { vec_len holdings.new ≤ vec_len holdings.old + 1 }
     ensures capacity { vec_capacity holdings.old ≤ vec_capacity holdings.new }

@@ -1,31 +1,27 @@
 -- What a drain takes, in the order of its arrival, and how it settles.
-use Rattle.std.specs.Prelude.{◌≡◌, ◌<◌, ◌≤◌, ◌+◌, ◌-◌, ℕ, Bool, true, false, List, [], ◌∷◌, cond, drop, length, map, Option, Some, None, refl, if◌then◌else◌}
-use Rattle.std.specs.List.{AllByRecursion}
-use Rattle.std.proofs.Common.{ap, arith, get_or, length-drop, suc, sym, zero, ◌∙◌}
-use Rattle.kd_model.proofs.Lists.{all_of_filter, all_of_put, map_of_filter, map_of_put, rest_at}
+use Rattle.std.specs.Prelude.{◌≡◌, ◌<◌, ◌≤◌, ◌+◌, ◌-◌, ℕ, Bool, true, false, List, [], ◌∷◌, ◌++◌, cond, drop, length, map, Option, Some, None, refl}
+use Rattle.std.specs.List.{AllByRecursion, find}
+use Rattle.std.proofs.lemmas.List.{append-nil, append_assoc, drop-drop, drop-map, drop_all, length-map}
+use Rattle.std.proofs.Common.{ap, arith, get_or, subst, length-append, length-drop, suc, sym, zero, ◌∙◌}
+use Rattle.kd_model.proofs.Truth.{same_some}
+use Rattle.kd_model.proofs.Lists.{map_of_filter, map_of_put, rest_at}
 use Rattle.kd_model.specs.Words.{in_order, least, put_in_order, those}
 use Rattle.kd_types.specs.declared.refusal.Refusal.TheVariants.{Busy}
-use Rattle.kd_pool.specs.State.{Answer, Pool, Slice, drained, is_earlier, is_reserved, is_waiting, refused, slots}
-use Rattle.kd_pool.specs.Steps.{arrived_earlier, drain_step, image_of, of_lower_number, settled, waiting_images, without_waiting}
-use Rattle.kd_pool.specs.Table.{arrivals, carried, shown}
-use Rattle.kd_pool.specs.declared.slot.Slot.{Slot}
+use Rattle.kd_acts.specs.State.{Answer, Pool, Slice, drained, entry_of, is_earlier, is_reserved, is_waiting, queue_of, refused, slot_numbered, slots, waiting_slots}
+use Rattle.kd_acts.specs.Steps.{arrived_earlier, drain_step, image_of, of_lower_number, settled, waiting_images, without_waiting}
+use Rattle.kd_pool.specs.Table.{AreFound, carried, slice_shown}
+use Rattle.kd_acts.proofs.Arrivals.{all_of_waiting}
+use Rattle.kd_queue.specs.declared.entry.Entry.{Entry}
+use Rattle.kd_acts.specs.declared.slot.Slot.{Slot}
 
--- what is put in order keeps what holds of each
-all_in_order : (P : Slot → Type 0) (below : Slot → Slot → Bool) (ss : List Slot) → AllByRecursion P ss → AllByRecursion P (in_order below ss)
-all_in_order P below [] a = tt
-all_in_order P below (s ∷ ss) a = all_of_put P below s (in_order below ss) a.0 (all_in_order P below ss a.1)
+-- what holds of each holds of those from a place on, and of the one there
+all_of_drop : (P : Slot → Type 0) (i : ℕ) (ss : List Slot) → AllByRecursion P ss → AllByRecursion P (drop i ss)
+all_of_drop P zero ss a = a
+all_of_drop P (suc i) [] a = tt
+all_of_drop P (suc i) (s ∷ ss) a = all_of_drop P i ss a.1
 
-pub all_arrive : (P : Slot → Type 0) (ss : List Slot) → AllByRecursion P ss → AllByRecursion P (arrivals ss)
-all_arrive P ss a = all_in_order P is_earlier (those is_waiting ss) (all_of_filter P is_waiting ss a)
-
--- what holds of each holds of the one at a place
 pub all_at : (P : Slot → Type 0) (ss : List Slot) (i : ℕ) (s : Slot) → i < length ss → s ≡ get_or ss i s → AllByRecursion P ss → P s
-all_at P ss i s h e a = (rw (rest_at ss i s h e) at (all_behind i ss a)).0
-  where
-    all_behind : (i : ℕ) (ss : List Slot) → AllByRecursion P ss → AllByRecursion P (drop i ss)
-    all_behind zero ss a = a
-    all_behind (suc i) [] a = tt
-    all_behind (suc i) (s ∷ ss) a = all_behind i ss a.1
+all_at P ss i s h e a = (rw (rest_at ss i s h e) at (all_of_drop P i ss a)).0
 
 -- an insert adds one
 length_put : (below : Slot → Slot → Bool) (s : Slot) (ss : List Slot) → length (put_in_order below s ss) ≡ length ss + 1
@@ -37,48 +33,82 @@ length_put below s (t ∷ ts) = go (below s t) (length_put below s ts)
     go false e = omega (arith, e)
 
 -- at most as many wait as there are
-pub few_arrive : (ss : List Slot) → length (arrivals ss) ≤ length ss
+pub few_arrive : (ss : List Slot) → length (waiting_slots ss) ≤ length ss
 few_arrive [] = omega arith
 few_arrive (s ∷ ss) = go (is_waiting s) (few_arrive ss)
   where
-    go : (b : Bool) → length (arrivals ss) ≤ length ss → length (in_order is_earlier (cond b (s ∷ those is_waiting ss) (those is_waiting ss))) ≤ length (s ∷ ss)
-    go true h = omega (arith, h, length_put is_earlier s (arrivals ss))
+    go : (b : Bool) → length (waiting_slots ss) ≤ length ss → length (in_order is_earlier (cond b (s ∷ those is_waiting ss) (those is_waiting ss))) ≤ length (s ∷ ss)
+    go true h = omega (arith, h, length_put is_earlier s (waiting_slots ss))
     go false h = omega (arith, h)
 
--- one more slot from behind takes its place in order
-pub puts_on : (ss rows after : List Slot) (behind : ℕ) (s : Slot) → behind < length ss → s ≡ get_or ss (length ss - 1 - behind) s → rows ≡ arrivals (drop (length ss - behind) ss) → after ≡ (if is_waiting s then put_in_order is_earlier s rows else rows) → after ≡ arrivals (drop (length ss - (behind + 1)) ss)
-puts_on ss rows after behind s h e a f =
-    let i : ℕ = length ss - 1 - behind in
-    let rest : List Slot = drop (i + 1) ss in
-    let inside : i < length ss = omega arith in
-    let next : i + 1 ≡ length ss - behind = omega arith in
-    let same : i ≡ length ss - (behind + 1) = omega arith in
-    let was : rows ≡ arrivals rest = a ∙ ap (λ n. arrivals (drop n ss)) (sym next) in
-    f ∙ ap (λ xs. if is_waiting s then put_in_order is_earlier s xs else xs) was ∙ go (is_waiting s) rest ∙ ap arrivals (sym (rest_at ss i s inside e)) ∙ ap (λ n. arrivals (drop n ss)) same
+-- the slots of the entries so far, and those that are left
+pub record Puts (ss rows : List Slot) (i : ℕ) : Type 0 where
+  pub all : rows ++ drop i (waiting_slots ss) ≡ waiting_slots ss
+
+-- the entry at a place is that of the slot there
+entry_at : (ws : List Slot) (i : ℕ) (e : Entry) → i < length (map entry_of ws) → e ≡ get_or (map entry_of ws) i e → (s : Slot) × (drop i ws ≡ s ∷ drop (i + 1) ws) × (entry_of s ≡ e)
+entry_at ws i e h is = go (drop i ws) refl
   where
-    go : (b : Bool) (rest : List Slot) → (if b then put_in_order is_earlier s (arrivals rest) else arrivals rest) ≡ in_order is_earlier (cond b (s ∷ those is_waiting rest) (those is_waiting rest))
-    go true rest = refl
-    go false rest = refl
+    whole : map entry_of (drop i ws) ≡ e ∷ drop (i + 1) (map entry_of ws)
+    whole = sym (drop-map entry_of i ws) ∙ rest_at (map entry_of ws) i e h is
 
--- there is room for one more from behind
-pub has_room : (ss rows : List Slot) (behind room : ℕ) → behind < length ss → length ss ≤ room → rows ≡ arrivals (drop (length ss - behind) ss) → length rows < room
-has_room ss rows behind room h enough a =
-    let few = few_arrive (drop (length ss - behind) ss) in
-    omega (arith, few, length-drop (length ss - behind) ss, ap length a)
+    go : (rest : List Slot) → drop i ws ≡ rest → (s : Slot) × (drop i ws ≡ s ∷ drop (i + 1) ws) × (entry_of s ≡ e)
+    go [] d = absurd (let clash : map entry_of [] ≡ e ∷ drop (i + 1) (map entry_of ws) = ap (map entry_of) (sym d) ∙ whole in cc)
+    go (s ∷ rest) d =
+        let same : entry_of s ∷ map entry_of rest ≡ e ∷ drop (i + 1) (map entry_of ws) = ap (map entry_of) (sym d) ∙ whole in
+        let behind : drop (i + 1) ws ≡ rest = ap (λ n. drop n ws) (omega arith) ∙ sym (drop-drop 1 i ws) ∙ ap (drop 1) d in
+        (s, d ∙ ap (s ∷◌) (sym behind), (let own : entry_of s ≡ e = cc in own))
 
-map_in_order : (m : List ℕ) (ss : List Slot) → map (shown m) (in_order is_earlier ss) ≡ in_order arrived_earlier (map (shown m) ss)
+-- it is found by its number
+found_at : (ss : List Slot) (i : ℕ) (s : Slot) → AreFound ss → drop i (waiting_slots ss) ≡ s ∷ drop (i + 1) (waiting_slots ss) → find (slot_numbered s.number) ss ≡ Some s
+found_at ss i s found d =
+    let P : Slot → Type 0 = λ s. find (slot_numbered s.number) ss ≡ Some s in
+    (rw d at (all_of_drop P i (waiting_slots ss) (all_of_waiting P ss found))).0
+
+-- one more entry: the slot that is found by its number goes behind the others
+pub puts_on : (ss rows : List Slot) (es : List Entry) (i : ℕ) (e : Entry) (o : Option Slot) → AreFound ss → es ≡ queue_of ss → i < length es → e ≡ get_or es i e → Puts ss rows i → o ≡ find (slot_numbered e.number) ss
+    → (t : Slot) × (o ≡ Some t) × Puts ss (rows ++ t ∷ []) (i + 1)
+puts_on ss rows es i e o found q h is a f =
+    let here = entry_at (waiting_slots ss) i e (rw (← q) h) (rw (← q) is) in
+    let number : here.0.number ≡ e.number = ap (λ (x : Entry). x.number) here.2 in (
+      here.0,
+      f ∙ ap (λ n. find (slot_numbered n) ss) (sym number) ∙ found_at ss i here.0 found here.1,
+      record { all = append_assoc rows (here.0 ∷ []) (drop (i + 1) (waiting_slots ss)) ∙ ap (λ xs. rows ++ xs) (sym here.1) ∙ a.all },
+    )
+
+pub puts_found : (ss rows : List Slot) (es : List Entry) (i : ℕ) (e : Entry) (o : Option Slot) (t : Slot) → AreFound ss → es ≡ queue_of ss → i < length es → e ≡ get_or es i e → Puts ss rows i → o ≡ find (slot_numbered e.number) ss → o ≡ Some t
+    → Puts ss (rows ++ t ∷ []) (i + 1)
+puts_found ss rows es i e o t found q h is a f some =
+    let p = puts_on ss rows es i e o found q h is a f in
+    subst (λ x. Puts ss (rows ++ x ∷ []) (i + 1)) (same_some p.0 t (sym p.1 ∙ some)) p.2
+
+-- there is room for one more
+pub has_room : (ss rows : List Slot) (es : List Entry) (i room : ℕ) → es ≡ queue_of ss → i < length es → length ss ≤ room → Puts ss rows i → length rows < room
+has_room ss rows es i room q h enough a =
+    let many = ap length a.all in
+    let same = ap length q in
+    omega (arith, few_arrive ss, length-append rows (drop i (waiting_slots ss)), length-drop i (waiting_slots ss), length-map (waiting_slots ss) entry_of, many, same)
+
+-- behind the last entry nothing is left
+pub puts_all : (ss rows : List Slot) (es : List Entry) (i : ℕ) → es ≡ queue_of ss → length es ≤ i → Puts ss rows i → rows ≡ waiting_slots ss
+puts_all ss rows es i q h a =
+    let same = ap length q in
+    let none = drop_all i (waiting_slots ss) (omega (arith, length-map (waiting_slots ss) entry_of, same)) in
+    sym (append-nil rows) ∙ ap (λ xs. rows ++ xs) (sym none) ∙ a.all
+
+map_in_order : (m : List ℕ) (ss : List Slot) → map (slice_shown m) (in_order is_earlier ss) ≡ in_order arrived_earlier (map (slice_shown m) ss)
 map_in_order m [] = refl
-map_in_order m (s ∷ ss) = map_of_put (shown m) is_earlier arrived_earlier (λ a b. refl) s (in_order is_earlier ss) ∙ ap (put_in_order arrived_earlier (shown m s)) (map_in_order m ss)
+map_in_order m (s ∷ ss) = map_of_put (slice_shown m) is_earlier arrived_earlier (λ a b. refl) s (in_order is_earlier ss) ∙ ap (put_in_order arrived_earlier (slice_shown m s)) (map_in_order m ss)
 
-map_twice : (m : List ℕ) (ss : List Slot) → map (carried m) ss ≡ map image_of (map (shown m) ss)
+map_twice : (m : List ℕ) (ss : List Slot) → map (carried m) ss ≡ map image_of (map (slice_shown m) ss)
 map_twice m [] = refl
 map_twice m (s ∷ ss) = ap (λ xs. carried m s ∷ xs) (map_twice m ss)
 
 -- the messages that wait in a pool, by its table
-pub images_shown : (m : List ℕ) (ss : List Slot) (p : Pool) → p.slices ≡ map (shown m) ss → map (carried m) (arrivals ss) ≡ waiting_images p
+pub images_shown : (m : List ℕ) (ss : List Slot) (p : Pool) → p.slices ≡ map (slice_shown m) ss → map (carried m) (waiting_slots ss) ≡ waiting_images p
 images_shown m ss p e =
-    map_twice m (arrivals ss)
-    ∙ ap (map image_of) (map_in_order m (those is_waiting ss) ∙ ap (in_order arrived_earlier) (map_of_filter (shown m) is_waiting (λ (s : Slice). is_waiting s.slot) (λ s. refl) ss))
+    map_twice m (waiting_slots ss)
+    ∙ ap (map image_of) (map_in_order m (those is_waiting ss) ∙ ap (in_order arrived_earlier) (map_of_filter (slice_shown m) is_waiting (λ (s : Slice). is_waiting s.slot) (λ s. refl) ss))
     ∙ ap (λ xs. map image_of (in_order arrived_earlier (those (λ (s : Slice). is_waiting s.slot) xs))) (sym e)
 
 -- by the lowest reserved number, if any

@@ -4,8 +4,8 @@ use Rattle.std.proofs.Common.{ap, arith, sym, ◌∙◌}
 use Rattle.std.proofs.lemmas.Bool.Decides.{nat_tests}
 use Rattle.kd_model.specs.Slices.{place, unused_number}
 use Rattle.kd_types.specs.declared.refusal.Refusal.{Refusal}
-use Rattle.kd_pool.specs.State.{Content, Pool, book_of, refused, slice}
-use Rattle.kd_pool.specs.Steps.{after_miss, fill_reserved, fill_step, filled, post_step, reserve_at, reserve_step, swept}
+use Rattle.kd_acts.specs.State.{Content, Pool, book_of, refused, slice}
+use Rattle.kd_acts.specs.Steps.{after_miss, fill_reserved, fill_step, filled, post_step, reserve_at, reserve_step, swept}
 
 -- a pair is its two parts
 pair_of : {A B : Type 0} (s : A × B) (a : A) (b : B) → a ≡ s.0 → b ≡ s.1 → s ≡ (a, b)

@@ -1,23 +1,24 @@
 -- What a pool keeps through each change of its table.
 use Rattle.std.specs.Prelude.{◌≡◌, ◌<◌, ◌≤◌, ◌||◌, ℕ, Bool, true, false, List, [], ◌∷◌, length, map, not, refl, IsTrue, Option, Some, None, ◌+◌, sum_by, ℤ}
 use Rattle.kd_model.specs.declared.placed.Gap.{Gap}
+use Rattle.kd_model.specs.declared.placed.Placed.{Placed}
 use Rattle.std.specs.List.{AllByRecursion, IsDistinct, find}
 use Rattle.std.proofs.Common.{ap, arith, sym, ◌∙◌}
 use Rattle.std.proofs.lemmas.List.{length-map}
 use Rattle.std.proofs.lemmas.Bool.Decides.{nat_tests}
-use Rattle.kd_model.proofs.Lists.{all_follow, all_of_found, map_of_filter, map_of_put}
+use Rattle.kd_model.proofs.Lists.{all_follow, all_of_found, all_under, distinct_under, map_of_filter, map_of_put}
 use Rattle.kd_model.proofs.Places.{at_most_numbers, fewer_than_numbers, order_is_whole, unused_is_free}
 use Rattle.kd_model.specs.Slices as model
 use Rattle.kd_model.specs.Slices.{AreInOrder, Book, IsEven, IsSound, gaps}
 use Rattle.kd_model.specs.declared.slice_no.TheConstants.{SLICES}
 use Rattle.kd_model.specs.Words.{but_those, put_in_order, some_of}
-use Rattle.kd_pool.specs.State.{Pool, Slice, book_of, has_number, is_lower, placed_of}
-use Rattle.kd_pool.specs.Sound.{IsKept, IsSoundPool}
-use Rattle.kd_pool.specs.Steps.{filled, offset_of, queued, with_content, written}
-use Rattle.kd_pool.specs.Table.{AreKept, IsCarried, in_phase, now_queued, shown}
-use Rattle.kd_pool.specs.declared.slot.Phase.{Phase}
-use Rattle.kd_pool.specs.declared.slot.Slot.{Slot}
-use Rattle.kd_pool.proofs.Apart.{all_under}
+use Rattle.kd_acts.specs.State.{Pool, Slice, book_of, slot_numbered, lies_lower, placed_of}
+use Rattle.kd_acts.specs.Sound.{IsKept, IsSoundPool}
+use Rattle.kd_acts.specs.Steps.{filled, in_phase, now_queued, offset_of, queued_slot, with_content, written}
+use Rattle.kd_pool.specs.Table.{AreKept, IsCarried, slice_shown}
+use Rattle.kd_acts.specs.declared.slot.Phase.{Phase}
+use Rattle.kd_acts.specs.declared.slot.Slot.{Slot}
+use Rattle.kd_acts.proofs.Apart.{AreApart}
 use Rattle.kd_pool.proofs.Publishes.{all_behind, all_stand, all_published}
 use Rattle.kd_pool.proofs.Views.{finds_put, slots_shown}
 
@@ -25,11 +26,11 @@ size_of : Book → ℕ
 size_of b = b.size
 
 -- with a slot more
-pub kept_put : (m : List ℕ) (b after : Book) (ss : List Slot) (t : Slot) (room now : ℕ) → AreKept m b ss room → after ≡ model.with_slice (placed_of t) b → IsSound after → room ≤ now → AreKept m after (put_in_order is_lower t ss) now
+pub kept_put : (m : List ℕ) (b after : Book) (ss : List Slot) (t : Slot) (room now : ℕ) → AreKept m b ss room → after ≡ model.with_slice (placed_of t) b → IsSound after → room ≤ now → AreKept m after (put_in_order lies_lower t ss) now
 kept_put m b after ss t room now k e sound more =
     let same : after.size ≡ b.size = ap (λ (x : Book). x.size) e in
     record {
-      tied = ap (λ (x : Book). x.slices) e ∙ ap (put_in_order model.is_lower (placed_of t)) k.tied ∙ sym (map_of_put placed_of is_lower model.is_lower (λ a b. refl) t ss);
+      tied = ap (λ (x : Book). x.slices) e ∙ ap (put_in_order model.is_lower (placed_of t)) k.tied ∙ sym (map_of_put placed_of lies_lower model.is_lower (λ a b. refl) t ss);
       sound = sound;
       whole = k.whole ∙ sym same;
       fits = omega (arith, k.fits);
@@ -37,11 +38,11 @@ kept_put m b after ss t room now k e sound more =
     }
 
 -- without the slot of a number
-pub kept_without : (m : List ℕ) (b after : Book) (ss : List Slot) (n room now : ℕ) → AreKept m b ss room → after ≡ model.without n b → IsSound after → now ≡ room → AreKept m after (but_those (has_number n) ss) now
+pub kept_without : (m : List ℕ) (b after : Book) (ss : List Slot) (n room now : ℕ) → AreKept m b ss room → after ≡ model.without_slice n b → IsSound after → now ≡ room → AreKept m after (but_those (slot_numbered n) ss) now
 kept_without m b after ss n room now k e sound same_room =
     let same : after.size ≡ b.size = ap (λ (x : Book). x.size) e in
     record {
-      tied = ap (λ (x : Book). x.slices) e ∙ ap (but_those (model.has_number n)) k.tied ∙ sym (map_of_filter placed_of (λ s. not (has_number n s)) (λ s. not (model.has_number n s)) (λ s. refl) ss);
+      tied = ap (λ (x : Book). x.slices) e ∙ ap (but_those (model.has_number n)) k.tied ∙ sym (map_of_filter placed_of (λ s. not (slot_numbered n s)) (λ s. not (model.has_number n s)) (λ s. refl) ss);
       sound = sound;
       whole = k.whole ∙ sym same;
       fits = omega (arith, k.fits);
@@ -76,32 +77,25 @@ kept_change m after b ss f room now stays k e same_room =
     same_places (t ∷ ts) = ap (λ x. x ∷ map placed_of (map f ts)) (stays t) ∙ ap (λ xs. placed_of t ∷ xs) (same_places ts)
 
 pub phase_stays : (ph : Phase) (n : ℕ) (s : Slot) → placed_of (in_phase ph n s) ≡ placed_of s
-phase_stays ph n s = go (has_number n s)
+phase_stays ph n s = go (slot_numbered n s)
   where
     go : (b : Bool) → placed_of (elim b [ true ↦ record s { phase = ph } | false ↦ s ]) ≡ placed_of s
     go true = refl
     go false = refl
 
 pub queue_stays : (n : ℕ) (priority : ℤ) (arrival : ℕ) (s : Slot) → placed_of (now_queued n priority arrival s) ≡ placed_of s
-queue_stays n priority arrival s = go (has_number n s)
+queue_stays n priority arrival s = go (slot_numbered n s)
   where
-    go : (b : Bool) → placed_of (elim b [ true ↦ queued priority arrival s | false ↦ s ]) ≡ placed_of s
+    go : (b : Bool) → placed_of (elim b [ true ↦ queued_slot priority arrival s | false ↦ s ]) ≡ placed_of s
     go true = refl
     go false = refl
 
--- a slot of the table is among them by its number
-pub each_among : (ss : List Slot) → AllByRecursion (λ (s : Slot). some_of (has_number s.number) ss ≡ true) ss
-each_among [] = tt
-each_among (s ∷ ss) =
-    let here : has_number s.number s ≡ true = grind (arith, nat_tests) in
-    (ap (λ b. b || some_of (has_number s.number) ss) here, all_follow _ _ ss (λ x h. later x h) (each_among ss))
-  where
-    later : (x : Slot) → some_of (has_number x.number) ss ≡ true → (has_number x.number s || some_of (has_number x.number) ss) ≡ true
-    later x h = go (has_number x.number s)
-      where
-        go : (b : Bool) → (b || some_of (has_number x.number) ss) ≡ true
-        go true = refl
-        go false = h
+-- no two slots of the table have one number, and each is below 256
+pub kept_apart : (m : List ℕ) (b : Book) (ss : List Slot) (room : ℕ) → AreKept m b ss room → AreApart ss
+kept_apart m b ss room k = distinct_under placed_of model.has_same_number ss (rw (sym k.tied) k.sound.distinct)
+
+pub kept_below : (m : List ℕ) (b : Book) (ss : List Slot) (room : ℕ) → AreKept m b ss room → AllByRecursion (λ (s : Slot). s.number < SLICES) ss
+kept_below m b ss room k = all_under (λ (p : Placed). p.number < SLICES) placed_of ss (rw (sym k.tied) k.sound.numbers)
 
 -- the slots of the table lie inside the memory
 pub ends_inside : (m : List ℕ) (b : Book) (ss : List Slot) (room : ℕ) → AreKept m b ss room → AllByRecursion (λ (s : Slot). s.offset + s.len ≤ length m) ss
@@ -126,20 +120,20 @@ pub fewer_slots : (m : List ℕ) (b : Book) (ss : List Slot) (room n : ℕ) → 
 fewer_slots m b ss room n k h = omega (arith, fewer_than_numbers b n k.sound h, ap length k.tied, length-map ss placed_of)
 
 -- the slots of the table are in the book
-pub in_book : (m : List ℕ) (b : Book) (ss : List Slot) (n room : ℕ) → AreKept m b ss room → IsTrue (some_of (has_number n) ss) → IsTrue (model.is_placed n b)
+pub in_book : (m : List ℕ) (b : Book) (ss : List Slot) (n room : ℕ) → AreKept m b ss room → IsTrue (some_of (slot_numbered n) ss) → IsTrue (model.is_placed n b)
 in_book m b ss n room k h = rw (k.tied) (any_placed ss ∙ h)
   where
-    any_placed : (ts : List Slot) → some_of (model.has_number n) (map placed_of ts) ≡ some_of (has_number n) ts
+    any_placed : (ts : List Slot) → some_of (model.has_number n) (map placed_of ts) ≡ some_of (slot_numbered n) ts
     any_placed [] = refl
-    any_placed (t ∷ ts) = ap (λ b. has_number n t || b) (any_placed ts)
+    any_placed (t ∷ ts) = ap (λ b. slot_numbered n t || b) (any_placed ts)
 
 -- the book under the view
-pub book_shown : (m : List ℕ) (b : Book) (ss : List Slot) (room arrival dropped offered : ℕ) → AreKept m b ss room → book_of (record { size = b.size; memory = m; slices = map (shown m) ss; next_arrival = arrival; dropped = dropped; offered = offered }) ≡ b
+pub book_shown : (m : List ℕ) (b : Book) (ss : List Slot) (room arrival dropped offered : ℕ) → AreKept m b ss room → book_of (record { size = b.size; memory = m; slices = map (slice_shown m) ss; next_arrival = arrival; dropped = dropped; offered = offered }) ≡ b
 book_shown m b ss room arrival dropped offered k =
     ap (λ xs. record { size = b.size; slices = map placed_of xs }) (slots_shown m ss) ∙ ap (λ xs. record { size = b.size; slices = xs }) (sym k.tied)
 
 -- what a pool keeps makes it sound
-pub pool_is_sound : (m : List ℕ) (b : Book) (ss : List Slot) (room arrival dropped offered : ℕ) → AreKept m b ss room → IsSoundPool (record { size = b.size; memory = m; slices = map (shown m) ss; next_arrival = arrival; dropped = dropped; offered = offered })
+pub pool_is_sound : (m : List ℕ) (b : Book) (ss : List Slot) (room arrival dropped offered : ℕ) → AreKept m b ss room → IsSoundPool (record { size = b.size; memory = m; slices = map (slice_shown m) ss; next_arrival = arrival; dropped = dropped; offered = offered })
 unfolding gaps
 pool_is_sound m b ss room arrival dropped offered k =
     let seen = sym (book_shown m b ss room arrival dropped offered k) in
@@ -151,13 +145,13 @@ pool_is_sound m b ss room arrival dropped offered k =
       bytes = bytes ss;
     }
   where
-    bytes : (ts : List Slot) → AllByRecursion (IsKept m) (map (shown m) ts)
+    bytes : (ts : List Slot) → AllByRecursion (IsKept m) (map (slice_shown m) ts)
     bytes [] = tt
     bytes (t ∷ ts) = (refl, bytes ts)
 
 -- the value of a pool
 abbrev pub view : List ℕ → Book → List Slot → ℕ → ℕ → ℕ → Pool
-view m b ss arrival dropped offered = record { size = b.size; memory = m; slices = map (shown m) ss; next_arrival = arrival; dropped = dropped; offered = offered }
+view m b ss arrival dropped offered = record { size = b.size; memory = m; slices = map (slice_shown m) ss; next_arrival = arrival; dropped = dropped; offered = offered }
 
 -- pools of one size with the same slices
 pub same_view : (m : List ℕ) (n k : ℕ) (xs ys : List Slice) (arrival dropped offered : ℕ) → n ≡ k → xs ≡ ys
@@ -167,22 +161,22 @@ same_view m n k xs ys arrival dropped offered e f =
     ap (λ i. P i xs) e ∙ ap (λ zs. P k zs) f
 
 -- publishing fills the slice of the number
-pub fills : (m : List ℕ) (b : Book) (ss : List Slot) (room arrival dropped offered n : ℕ) (image : List ℕ) (priority : ℤ) (t : Slot) → AreKept m b ss room → find (has_number n) ss ≡ Some t → length image ≡ t.len
+pub fills : (m : List ℕ) (b : Book) (ss : List Slot) (room arrival dropped offered n : ℕ) (image : List ℕ) (priority : ℤ) (t : Slot) → AreKept m b ss room → find (slot_numbered n) ss ≡ Some t → length image ≡ t.len
     → (let x : Pool = view (written m t.offset image) b (map (now_queued n priority arrival) ss) (arrival + 1) dropped offered in x) ≡ filled n (record { image = image; shared = None; priority = priority }) (view m b ss arrival dropped offered)
 unfolding filled
 fills m b ss room arrival dropped offered n image priority t k found fits =
     let order : AreInOrder 0 b.size (map placed_of ss) = rw (sym k.tied) k.sound.order in
     let distinct : IsDistinct model.has_same_number (map placed_of ss) = rw (sym k.tied) k.sound.distinct in
-    let inside : t.offset + t.len ≤ b.size = omega (arith, all_of_found _ (has_number n) ss t (ends_inside m b ss room k) found, k.whole) in
+    let inside : t.offset + t.len ≤ b.size = omega (arith, all_of_found _ (slot_numbered n) ss t (ends_inside m b ss room k) found, k.whole) in
     let stand = all_stand n 0 b.size t ss order distinct found in
     let all = all_published n image priority arrival b.size m t ss k.whole fits inside stand in
-    let at : t.offset ≡ offset_of n (view m b ss arrival dropped offered) = ap place_of (sym (ap (find (has_number n)) (slots_shown m ss) ∙ found)) in
+    let at : t.offset ≡ offset_of n (view m b ss arrival dropped offered) = ap place_of (sym (ap (find (slot_numbered n)) (slots_shown m ss) ∙ found)) in
     let P : ℕ → List Slice → Pool = λ i zs. record { size = b.size; memory = written m i image; slices = zs; next_arrival = arrival + 1; dropped = dropped; offered = offered } in
-    ap (λ zs. P t.offset zs) all ∙ ap (λ i. P i (map (with_content n (record { image = image; shared = None; priority = priority }) arrival) (map (shown m) ss))) at
+    ap (λ zs. P t.offset zs) all ∙ ap (λ i. P i (map (with_content n (record { image = image; shared = None; priority = priority }) arrival) (map (slice_shown m) ss))) at
   where
     place_of : Option Slot → ℕ
     place_of o = elim o [ None ↦ 0 | Some s ↦ s.offset ]
 
 -- a slot with an unused number is found once it is in the table
-pub finds_reserved : (m : List ℕ) (b : Book) (ss : List Slot) (room n : ℕ) (t : Slot) → AreKept m b ss room → model.unused_number b ≡ Some n → t.number ≡ n → find (has_number n) (put_in_order is_lower t ss) ≡ Some t
+pub finds_reserved : (m : List ℕ) (b : Book) (ss : List Slot) (room n : ℕ) (t : Slot) → AreKept m b ss room → model.unused_number b ≡ Some n → t.number ≡ n → find (slot_numbered n) (put_in_order lies_lower t ss) ≡ Some t
 finds_reserved m b ss room n t k h e = finds_put n t ss (grind (arith, nat_tests)) (all_under (λ p. model.has_number n p ≡ false) placed_of ss (rw k.tied at (unused_is_free b n h)))

@@ -1,12 +1,13 @@
 -- Why a length has no place that no pool has.
 use Rattle.std.specs.Prelude.{◌≡◌, ◌<◌, ◌≤◌, ◌+◌, ◌==◌, ℕ, Bool, true, false, not, List, [], ◌∷◌, Some, None, cond, length, nat_le, option_map, refl, sum_by}
 use Rattle.std.specs.List.{find, list_any, range_with_len}
-use Rattle.std.proofs.Common.{ap, arith, eqb, suc, sym, zero, ◌∙◌, ⊎_elim}
+use Rattle.std.proofs.Common.{ap, arith, eqb, suc, zero, ◌∙◌, ⊎_elim}
 use Rattle.std.proofs.lemmas.Bool.{cases_eq}
 use Rattle.std.proofs.lemmas.Bool.Decides.{nat_tests}
 use Rattle.std.proofs.lemmas.List.{length-map}
 use Rattle.std.proofs.lemmas.List.Sums.{sum_by-cons}
 use Rattle.std.proofs.lemmas.Map.Steps.{le-length_from_below}
+use Rattle.kd_model.proofs.Truth.{not_false}
 use Rattle.kd_model.proofs.Places.{numbers, order_is_whole}
 use Rattle.kd_model.specs.Slices.{Book, IsSound, best_gap, gaps, gaps_from, has_number, is_better, lowest_unused, place, unused_number, used}
 use Rattle.kd_model.specs.Words.{least, some_of, those}
@@ -33,10 +34,6 @@ swapped q n = go (n == q) refl
 any_number : (q : ℕ) (ss : List Placed) → list_any (eqb q) (numbers ss) ≡ some_of (has_number q) ss
 any_number q [] = refl
 any_number q (s ∷ ss) = rw (swapped q s.number, any_number q ss) refl
-
-not_false : (b : Bool) → not b ≡ false → b ≡ true
-not_false true e = refl
-not_false false e = sym e
 
 -- where no number is unused there are as many slices as numbers
 pub all_in_use : (b : Book) → unused_number b ≡ None → SLICES ≤ length b.slices

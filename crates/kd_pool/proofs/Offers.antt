@@ -3,9 +3,9 @@ use Rattle.std.specs.Prelude.{◌≡◌, ◌+◌, ℕ, Bool, true, false, List, 
 use Rattle.std.proofs.Common.{ap, ◌∙◌, sym}
 use Rattle.kd_types.specs.declared.refusal.Refusal.TheVariants.{PoolFull, Quota, SlicesSpent}
 use Rattle.kd_model.specs.Slices.{Book, place, unused_number}
-use Rattle.kd_pool.specs.State.{Answer, Pool, book_of, refused, slice, slots}
-use Rattle.kd_pool.specs.Steps.{must_offer_step, over_quota, reserve_at, reserve_step, reserved, swept, unbound_offer_step}
-use Rattle.kd_pool.specs.declared.slot.Slot.{Slot}
+use Rattle.kd_acts.specs.State.{Answer, Pool, book_of, refused, slice, slots}
+use Rattle.kd_acts.specs.Steps.{must_offer_step, over_quota, reserve_at, reserve_step, with_reserved, swept}
+use Rattle.kd_acts.specs.declared.slot.Slot.{Slot}
 
 -- all numbers are in use
 pub reserves_none : (p : Pool) (b : Book) (len source : ℕ) (user : Option ℕ) → book_of p ≡ b → unused_number b ≡ None → reserve_step len user source p ≡ (p, refused SlicesSpent)
@@ -22,7 +22,7 @@ reserves_nowhere p b len source user e u l = ap (λ (x : Book). reserve_at (unus
     go (Some n) u = refl
 
 -- a slice is reserved
-pub reserves : (p : Pool) (b : Book) (len source n at : ℕ) (user : Option ℕ) → book_of p ≡ b → unused_number b ≡ Some n → place b len ≡ Some at → reserve_step len user source p ≡ (reserved n at len user source p, slice n)
+pub reserves : (p : Pool) (b : Book) (len source n at : ℕ) (user : Option ℕ) → book_of p ≡ b → unused_number b ≡ Some n → place b len ≡ Some at → reserve_step len user source p ≡ (with_reserved n at len user source p, slice n)
 unfolding reserve_step
 reserves p b len source n at user e u l = ap (λ (x : Book). reserve_at (unused_number x) (place x len) len user source p) e ∙ ap (λ o. reserve_at o (place b len) len user source p) u ∙ ap (λ o. reserve_at (Some n) o len user source p) l
 
@@ -36,7 +36,3 @@ offers_by user len source size before p ss b e s t o =
   where
     told : Bool → Pool × Answer
     told b = elim b [ true ↦ (p, refused Quota) | false ↦ reserve_step len (Some user) source p ]
-
-pub offers_unbound : (user len source : ℕ) (before p : Pool) → p ≡ swept (record before { offered = before.offered + 1 }) → unbound_offer_step user len source before ≡ reserve_step len (Some user) source p
-unfolding unbound_offer_step
-offers_unbound user len source before p e = ap (reserve_step len (Some user) source) (sym e)

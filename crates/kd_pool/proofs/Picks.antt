@@ -1,14 +1,12 @@
--- What a walk along the table knows of the slot that a receive takes.
+-- What a walk along the table knows of the least slot so far.
 use Rattle.std.specs.Prelude.{◌≡◌, Bool, true, false, List, [], ◌∷◌, Option}
 use Rattle.std.proofs.Common.{ap, arith, sym, ◌∙◌}
 use Rattle.std.proofs.lemmas.Bool.Decides.{nat_tests}
-use Rattle.std.proofs.lemmas.Int.{ints}
 use Rattle.std.proofs.lemmas.List.Elements.{filter-append}
 use Rattle.kd_model.proofs.Least.{IsRanking, least_of_append, lesser_assoc}
 use Rattle.kd_model.specs.Words.{least, lesser, those}
-use Rattle.kd_pool.specs.State.{goes_before, is_earlier}
-use Rattle.kd_pool.specs.Steps.{of_lower_number}
-use Rattle.kd_pool.specs.declared.slot.Slot.{Slot}
+use Rattle.kd_acts.specs.Steps.{of_lower_number}
+use Rattle.kd_acts.specs.declared.slot.Slot.{Slot}
 
 -- the best so far and the best of what is left are the best of all
 pub record Leads {X : Type 0} (below : X → X → Bool) (test : X → Bool) (best : Option X) (all rest : List X) : Type 0 where
@@ -20,26 +18,6 @@ leads_on below test r best next all xs x h e =
     let rest = least below (those test xs) in
     let both : least below (those test (x ∷ xs)) ≡ lesser below here rest = ap (least below) (filter-append test (x ∷ []) xs) ∙ least_of_append below r (those test (x ∷ [])) (those test xs) in
     record { whole = ap (λ o. lesser below o rest) e ∙ lesser_assoc below r best here rest ∙ ap (lesser below best) (sym both) ∙ h.whole }
-
--- slots rank by their arrival
-pub earlier_ranks : IsRanking is_earlier
-earlier_ranks = record { chains = chains; levels = levels }
-  where
-    chains : (a b c : Slot) → is_earlier a b ≡ true → is_earlier b c ≡ true → is_earlier a c ≡ true
-    chains a b c p q = grind (arith, nat_tests)
-
-    levels : (a b c : Slot) → is_earlier a b ≡ false → is_earlier b c ≡ false → is_earlier a c ≡ false
-    levels a b c p q = grind (arith, nat_tests)
-
--- slots rank by priority, then arrival
-pub before_ranks : IsRanking goes_before
-before_ranks = record { chains = chains; levels = levels }
-  where
-    chains : (a b c : Slot) → goes_before a b ≡ true → goes_before b c ≡ true → goes_before a c ≡ true
-    chains a b c p q = grind (arith, nat_tests, ints)
-
-    levels : (a b c : Slot) → goes_before a b ≡ false → goes_before b c ≡ false → goes_before a c ≡ false
-    levels a b c p q = grind (arith, nat_tests, ints)
 
 -- slots rank by their number
 pub number_ranks : IsRanking of_lower_number

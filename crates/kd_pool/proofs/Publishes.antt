@@ -6,17 +6,17 @@ use Rattle.std.proofs.lemmas.Bool.{false≢true}
 use Rattle.std.proofs.lemmas.Bool.Decides.{nat_tests}
 use Rattle.kd_model.proofs.Lists.{all_follow, all_of_found}
 use Rattle.kd_model.specs.Slices.{AreInOrder, has_same_number}
-use Rattle.kd_pool.specs.State.{Content, has_number, placed_of}
-use Rattle.kd_pool.specs.Sound.{range_of}
-use Rattle.kd_pool.specs.Steps.{queued, with_content, written}
-use Rattle.kd_pool.specs.Table.{now_queued, shown}
-use Rattle.kd_pool.specs.declared.slot.Slot.{Slot}
+use Rattle.kd_acts.specs.State.{Content, slot_numbered, placed_of}
+use Rattle.kd_acts.specs.Sound.{slot_range}
+use Rattle.kd_acts.specs.Steps.{now_queued, queued_slot, with_content, written}
+use Rattle.kd_pool.specs.Table.{slice_shown}
+use Rattle.kd_acts.specs.declared.slot.Slot.{Slot}
 use Rattle.kd_pool.proofs.Writes.{written_elsewhere, written_there}
 
 -- a slot of a table beside the slot of a number: it is that one, or lies apart from it
 pub record Stands (n size : ℕ) (t s : Slot) : Type 0 where
-  pub it : has_number n s ≡ true → s ≡ t
-  pub other : has_number n s ≡ false → (s.offset + s.len ≤ t.offset) ⊎ (t.offset + t.len ≤ s.offset)
+  pub it : slot_numbered n s ≡ true → s ≡ t
+  pub other : slot_numbered n s ≡ false → (s.offset + s.len ≤ t.offset) ⊎ (t.offset + t.len ≤ s.offset)
   pub inside : s.offset + s.len ≤ size
 
 -- slots in order from a place on lie behind it, and inside
@@ -30,24 +30,24 @@ all_behind from size (s ∷ ss) o =
     ends s [] o = o
     ends s (t ∷ ts) o = let more = ends t ts o.2 in omega (arith, o.0, more)
 
-others : (s : Slot) (ss : List Slot) → AllByRecursion (λ y. has_same_number (placed_of s) y ≡ false) (map placed_of ss) → AllByRecursion (λ (x : Slot). has_number s.number x ≡ false) ss
+others : (s : Slot) (ss : List Slot) → AllByRecursion (λ y. has_same_number (placed_of s) y ≡ false) (map placed_of ss) → AllByRecursion (λ (x : Slot). slot_numbered s.number x ≡ false) ss
 others s [] a = tt
 others s (t ∷ ts) a = (grind (arith, nat_tests), others s ts a.1)
 
-after_it : (n size : ℕ) (s t : Slot) (ss : List Slot) → has_number n s ≡ true → s ≡ t → AllByRecursion (λ (x : Slot). has_number s.number x ≡ false) ss → AllByRecursion (λ (x : Slot). (s.offset + s.len ≤ x.offset) × (x.offset + x.len ≤ size)) ss → AllByRecursion (Stands n size t) ss
+after_it : (n size : ℕ) (s t : Slot) (ss : List Slot) → slot_numbered n s ≡ true → s ≡ t → AllByRecursion (λ (x : Slot). slot_numbered s.number x ≡ false) ss → AllByRecursion (λ (x : Slot). (s.offset + s.len ≤ x.offset) × (x.offset + x.len ≤ size)) ss → AllByRecursion (Stands n size t) ss
 after_it n size s t [] e same o b = tt
 after_it n size s t (x ∷ xs) e same o b =
-    let out : has_number n x ≡ false = grind (arith, nat_tests) in
+    let out : slot_numbered n x ≡ false = grind (arith, nat_tests) in
     let behind : t.offset + t.len ≤ x.offset = rw (sym same) b.0.0 in
     (record { it = λ h. absurd (false≢true (sym out ∙ h)); other = λ h. inr behind; inside = b.0.1 }, after_it n size s t xs e same o.1 b.1)
 
 -- each slot is the one of the number or lies apart from it
-pub all_stand : (n from size : ℕ) (t : Slot) (ss : List Slot) → AreInOrder from size (map placed_of ss) → IsDistinct has_same_number (map placed_of ss) → find (has_number n) ss ≡ Some t → AllByRecursion (Stands n size t) ss
+pub all_stand : (n from size : ℕ) (t : Slot) (ss : List Slot) → AreInOrder from size (map placed_of ss) → IsDistinct has_same_number (map placed_of ss) → find (slot_numbered n) ss ≡ Some t → AllByRecursion (Stands n size t) ss
 unfolding IsDistinct
 all_stand n from size t [] o d f = tt
-all_stand n from size t (s ∷ ss) o d f = go (has_number n s) refl f (all_stand n (s.offset + s.len) size t ss o.2 d.1)
+all_stand n from size t (s ∷ ss) o d f = go (slot_numbered n s) refl f (all_stand n (s.offset + s.len) size t ss o.2 d.1)
   where
-    go : (b : Bool) → has_number n s ≡ b → cond b (Some s) (find (has_number n) ss) ≡ Some t → (find (has_number n) ss ≡ Some t → AllByRecursion (Stands n size t) ss) → AllByRecursion (Stands n size t) (s ∷ ss)
+    go : (b : Bool) → slot_numbered n s ≡ b → cond b (Some s) (find (slot_numbered n) ss) ≡ Some t → (find (slot_numbered n) ss ≡ Some t → AllByRecursion (Stands n size t) ss) → AllByRecursion (Stands n size t) (s ∷ ss)
     go true e g ih =
         let same : s ≡ t = cc in
         let behind = all_behind (s.offset + s.len) size ss o.2 in
@@ -55,28 +55,28 @@ all_stand n from size t (s ∷ ss) o d f = go (has_number n s) refl f (all_stand
         (record { it = λ h. same; other = λ h. absurd (false≢true (sym h ∙ e)); inside = inside }, after_it n size s t ss e same (others s ss d.0) behind)
     go false e g ih =
         let behind = all_behind (s.offset + s.len) size ss o.2 in
-        let found = all_of_found (λ (x : Slot). (s.offset + s.len ≤ x.offset) × (x.offset + x.len ≤ size)) (has_number n) ss t behind g in
+        let found = all_of_found (λ (x : Slot). (s.offset + s.len ≤ x.offset) × (x.offset + x.len ≤ size)) (slot_numbered n) ss t behind g in
         let inside : s.offset + s.len ≤ size = (all_behind from size (s ∷ ss) o).0.1 in
         (record { it = λ h. absurd (false≢true (sym e ∙ h)); other = λ h. inl found.0; inside = inside }, ih g)
 
-published : (n : ℕ) (image : List ℕ) (priority : ℤ) (arrival size : ℕ) (m : List ℕ) (t s : Slot) → length m ≡ size → length image ≡ t.len → t.offset + t.len ≤ size → Stands n size t s → shown (written m t.offset image) (now_queued n priority arrival s) ≡ with_content n (record { image = image; shared = None; priority = priority }) arrival (shown m s)
-published n image priority arrival size m t s whole fits inside a = go (has_number n s) refl
+published : (n : ℕ) (image : List ℕ) (priority : ℤ) (arrival size : ℕ) (m : List ℕ) (t s : Slot) → length m ≡ size → length image ≡ t.len → t.offset + t.len ≤ size → Stands n size t s → slice_shown (written m t.offset image) (now_queued n priority arrival s) ≡ with_content n (record { image = image; shared = None; priority = priority }) arrival (slice_shown m s)
+published n image priority arrival size m t s whole fits inside a = go (slot_numbered n s) refl
   where
-    go : (b : Bool) → has_number n s ≡ b → shown (written m t.offset image) (elim b [ true ↦ queued priority arrival s | false ↦ s ]) ≡ elim b [ true ↦ record { slot = queued priority arrival s; bytes = image; shared = None } | false ↦ shown m s ]
+    go : (b : Bool) → slot_numbered n s ≡ b → slice_shown (written m t.offset image) (elim b [ true ↦ queued_slot priority arrival s | false ↦ s ]) ≡ elim b [ true ↦ record { slot = queued_slot priority arrival s; bytes = image; shared = None } | false ↦ slice_shown m s ]
     go true e =
         let place : s ≡ t = a.it e in
-        let there : range_of (written m t.offset image) s ≡ image = ap (range_of (written m t.offset image)) place ∙ written_there m image t.offset t.len (omega arith) fits in
-        ap (λ xs. record { slot = queued priority arrival s; bytes = xs; shared = None }) there
+        let there : slot_range (written m t.offset image) s ≡ image = ap (slot_range (written m t.offset image)) place ∙ written_there m image t.offset t.len (omega arith) fits in
+        ap (λ xs. record { slot = queued_slot priority arrival s; bytes = xs; shared = None }) there
     go false e =
         let apart = a.other e in
-        let stays : range_of (written m t.offset image) s ≡ range_of m s = written_elsewhere m image t.offset s.offset s.len (omega arith) (⊎_elim (λ l. inl l) (λ r. inr (omega arith)) apart) in
+        let stays : slot_range (written m t.offset image) s ≡ slot_range m s = written_elsewhere m image t.offset s.offset s.len (omega arith) (⊎_elim (λ l. inl l) (λ r. inr (omega arith)) apart) in
         ap (λ xs. record { slot = s; bytes = xs; shared = None }) stays
 
 -- the table is seen with the content in the slice of the number, and all others as they were
 pub all_published : (n : ℕ) (image : List ℕ) (priority : ℤ) (arrival size : ℕ) (m : List ℕ) (t : Slot) (ss : List Slot) → length m ≡ size → length image ≡ t.len → t.offset + t.len ≤ size → AllByRecursion (Stands n size t) ss
-    → map (shown (written m t.offset image)) (map (now_queued n priority arrival) ss) ≡ map (with_content n (record { image = image; shared = None; priority = priority }) arrival) (map (shown m) ss)
+    → map (slice_shown (written m t.offset image)) (map (now_queued n priority arrival) ss) ≡ map (with_content n (record { image = image; shared = None; priority = priority }) arrival) (map (slice_shown m) ss)
 all_published n image priority arrival size m t [] whole fits inside a = refl
 all_published n image priority arrival size m t (s ∷ ss) whole fits inside a =
     let c : Content = record { image = image; shared = None; priority = priority } in
-    ap (λ x. x ∷ map (shown (written m t.offset image)) (map (now_queued n priority arrival) ss)) (published n image priority arrival size m t s whole fits inside a.0)
-    ∙ ap (λ xs. with_content n c arrival (shown m s) ∷ xs) (all_published n image priority arrival size m t ss whole fits inside a.1)
+    ap (λ x. x ∷ map (slice_shown (written m t.offset image)) (map (now_queued n priority arrival) ss)) (published n image priority arrival size m t s whole fits inside a.0)
+    ∙ ap (λ xs. with_content n c arrival (slice_shown m s) ∷ xs) (all_published n image priority arrival size m t ss whole fits inside a.1)

@@ -5,10 +5,10 @@ use Rattle.std.proofs.lemmas.List.{append-nil, drop_all, map-append, take_all}
 use Rattle.std.proofs.lemmas.List.Elements.{filter_more}
 use Rattle.kd_model.proofs.Lists.{rest_at}
 use Rattle.kd_model.proofs.Places.{number_in_middle, taken_out}
-use Rattle.kd_model.specs.Slices.{Book, IsSound, has_number, is_placed, without}
+use Rattle.kd_model.specs.Slices.{Book, IsSound, has_number, is_placed, without_slice}
 use Rattle.kd_model.specs.Words.{but_those}
-use Rattle.kd_pool.specs.State.{placed_of}
-use Rattle.kd_pool.specs.declared.slot.Slot.{Slot}
+use Rattle.kd_acts.specs.State.{placed_of}
+use Rattle.kd_acts.specs.declared.slot.Slot.{Slot}
 
 -- of the first slots those that go are out of the book, and all others are in it
 pub record Sweeps (goes : Slot → Bool) (size : ℕ) (slots : List Slot) (i : ℕ) (book : Book) : Type 0 where
@@ -26,14 +26,14 @@ is_in_book goes size slots i s book h e a = rw (a.left ∙ here goes slots i s h
 next : (goes : Slot → Bool) (slots : List Slot) (i : ℕ) (s : Slot) → i < length slots → s ≡ get_or slots i s → but_those goes (take (i + 1) slots) ≡ but_those goes (take i slots) ++ cond (not (goes s)) (s ∷ []) []
 next goes slots i s h e = filter_more (λ x. not (goes x)) slots i s h ∙ ap (λ (x : Slot). but_those goes (take i slots) ++ cond (not (goes x)) (x ∷ []) []) (sym e)
 
-pub sweeps_on : (goes : Slot → Bool) (size : ℕ) (slots : List Slot) (i : ℕ) (s : Slot) (book after : Book) → i < length slots → s ≡ get_or slots i s → Sweeps goes size slots i book → after ≡ (if goes s then without s.number book else book) → IsSound after → Sweeps goes size slots (i + 1) after
+pub sweeps_on : (goes : Slot → Bool) (size : ℕ) (slots : List Slot) (i : ℕ) (s : Slot) (book after : Book) → i < length slots → s ≡ get_or slots i s → Sweeps goes size slots i book → after ≡ (if goes s then without_slice s.number book else book) → IsSound after → Sweeps goes size slots (i + 1) after
 sweeps_on goes size slots i s book after h e a f sound = go (goes s) refl
   where
     go : (b : Bool) → goes s ≡ b → Sweeps goes size slots (i + 1) after
     go true g =
         let front : List Slot = but_those goes (take i slots) in
         let rest : List Slot = drop (i + 1) slots in
-        let gone : after ≡ without s.number book = f ∙ ap (λ b. if b then without s.number book else book) g in
+        let gone : after ≡ without_slice s.number book = f ∙ ap (λ b. if b then without_slice s.number book else book) g in
         let was : book.slices ≡ map placed_of front ++ placed_of s ∷ map placed_of rest = a.left ∙ here goes slots i s h e in
         let out = taken_out (placed_of s) (map placed_of front) (map placed_of rest) (rw was at a.sound.distinct) in
         let kept : but_those goes (take (i + 1) slots) ≡ front = next goes slots i s h e ∙ ap (λ b. front ++ cond (not b) (s ∷ []) []) g ∙ append-nil front in
@@ -45,7 +45,7 @@ sweeps_on goes size slots i s book after h e a f sound = go (goes s) refl
     go false g =
         let front : List Slot = but_those goes (take i slots) in
         let rest : List Slot = drop (i + 1) slots in
-        let same : after ≡ book = f ∙ ap (λ b. if b then without s.number book else book) g in
+        let same : after ≡ book = f ∙ ap (λ b. if b then without_slice s.number book else book) g in
         let kept : but_those goes (take (i + 1) slots) ≡ front ++ s ∷ [] = next goes slots i s h e ∙ ap (λ b. front ++ cond (not b) (s ∷ []) []) g in
         record {
           size_stays = ap (λ (b : Book). b.size) same ∙ a.size_stays;

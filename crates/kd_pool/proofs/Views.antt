@@ -3,70 +3,58 @@ use Rattle.std.specs.Prelude.{◌≡◌, ◌&&◌, ℕ, Bool, true, false, List,
 use Rattle.std.specs.List.{AllByRecursion, find}
 use Rattle.std.proofs.Common.{ap, ◌∙◌}
 use Rattle.kd_model.specs.Words.{put_in_order}
-use Rattle.kd_pool.specs.State.{Answer, Pool, Slice, bytes_of, has_number, is_lower, is_readable, is_reserved, refused, slots}
-use Rattle.kd_pool.specs.Sound.{range_of}
+use Rattle.kd_acts.specs.State.{Answer, Pool, Slice, bytes_of, slot_numbered, lies_lower, is_readable, is_reserved, refused, slots}
+use Rattle.kd_acts.specs.Sound.{slot_range}
 use Rattle.kd_types.specs.declared.refusal.Refusal.TheVariants.{NoSuchSeal, NoSuchSlice}
-use Rattle.kd_pool.specs.Steps.{length_reserved, read_answer, reserved_length, set_phase, share_answer}
-use Rattle.kd_pool.specs.Table.{in_phase, shown}
-use Rattle.kd_pool.specs.declared.slot.Phase.{Phase}
-use Rattle.kd_pool.specs.declared.slot.Slot.{Slot}
+use Rattle.kd_acts.specs.Steps.{in_phase, length_reserved, read_answer, reserved_length, set_phase, share_answer}
+use Rattle.kd_pool.specs.Table.{slice_shown}
+use Rattle.kd_acts.specs.declared.slot.Phase.{Phase}
+use Rattle.kd_acts.specs.declared.slot.Slot.{Slot}
 
 -- the table is seen whole
-pub slots_shown : (m : List ℕ) (ss : List Slot) → map (λ (s : Slice). s.slot) (map (shown m) ss) ≡ ss
+pub slots_shown : (m : List ℕ) (ss : List Slot) → map (λ (s : Slice). s.slot) (map (slice_shown m) ss) ≡ ss
 slots_shown m [] = refl
 slots_shown m (s ∷ ss) = ap (s ∷◌) (slots_shown m ss)
 
 -- what is found is seen
-pub find_shown : (m : List ℕ) (p : Slice → Bool) (ss : List Slot) → find p (map (shown m) ss) ≡ option_map (shown m) (find (λ s. p (shown m s)) ss)
+pub find_shown : (m : List ℕ) (p : Slice → Bool) (ss : List Slot) → find p (map (slice_shown m) ss) ≡ option_map (slice_shown m) (find (λ s. p (slice_shown m s)) ss)
 find_shown m p [] = refl
-find_shown m p (s ∷ ss) = go (p (shown m s)) (find_shown m p ss)
+find_shown m p (s ∷ ss) = go (p (slice_shown m s)) (find_shown m p ss)
   where
-    go : (b : Bool) → find p (map (shown m) ss) ≡ option_map (shown m) (find (λ s. p (shown m s)) ss) → cond b (Some (shown m s)) (find p (map (shown m) ss)) ≡ option_map (shown m) (cond b (Some s) (find (λ s. p (shown m s)) ss))
+    go : (b : Bool) → find p (map (slice_shown m) ss) ≡ option_map (slice_shown m) (find (λ s. p (slice_shown m s)) ss) → cond b (Some (slice_shown m s)) (find p (map (slice_shown m) ss)) ≡ option_map (slice_shown m) (cond b (Some s) (find (λ s. p (slice_shown m s)) ss))
     go true e = refl
     go false e = e
 
-phase_shown : (m : List ℕ) (ph : Phase) (n : ℕ) (s : Slot) → shown m (in_phase ph n s) ≡ set_phase ph n (shown m s)
-phase_shown m ph n s = go (has_number n s)
+phase_shown : (m : List ℕ) (ph : Phase) (n : ℕ) (s : Slot) → slice_shown m (in_phase ph n s) ≡ set_phase ph n (slice_shown m s)
+phase_shown m ph n s = go (slot_numbered n s)
   where
-    go : (b : Bool) → shown m (elim b [ true ↦ record s { phase = ph } | false ↦ s ]) ≡ elim b [ true ↦ record (shown m s) { slot = record s { phase = ph } } | false ↦ shown m s ]
+    go : (b : Bool) → slice_shown m (elim b [ true ↦ record s { phase = ph } | false ↦ s ]) ≡ elim b [ true ↦ record (slice_shown m s) { slot = record s { phase = ph } } | false ↦ slice_shown m s ]
     go true = refl
     go false = refl
 
 -- a phase is seen to change
-pub phases_shown : (m : List ℕ) (ph : Phase) (n : ℕ) (ss : List Slot) → map (shown m) (map (in_phase ph n) ss) ≡ map (set_phase ph n) (map (shown m) ss)
+pub phases_shown : (m : List ℕ) (ph : Phase) (n : ℕ) (ss : List Slot) → map (slice_shown m) (map (in_phase ph n) ss) ≡ map (set_phase ph n) (map (slice_shown m) ss)
 phases_shown m ph n [] = refl
-phases_shown m ph n (s ∷ ss) = ap (λ x. x ∷ map (shown m) (map (in_phase ph n) ss)) (phase_shown m ph n s) ∙ ap (λ xs. set_phase ph n (shown m s) ∷ xs) (phases_shown m ph n ss)
+phases_shown m ph n (s ∷ ss) = ap (λ x. x ∷ map (slice_shown m) (map (in_phase ph n) ss)) (phase_shown m ph n s) ∙ ap (λ xs. set_phase ph n (slice_shown m s) ∷ xs) (phases_shown m ph n ss)
 
--- the answer to a read goes by the slot that may be read
-pub read_seen : (m : List ℕ) (p : Pool) (ss : List Slot) (n : ℕ) (o : Option Slot) → p.slices ≡ map (shown m) ss → find (λ s. has_number n s && is_readable s) ss ≡ o → read_answer n false p ≡ elim o [ None ↦ refused NoSuchSlice | Some s ↦ bytes_of (range_of m s) ]
+-- the answer to a read goes by the slot that may be read, and no slot has a share
+pub read_seen : (m : List ℕ) (p : Pool) (ss : List Slot) (n : ℕ) (sealed : Bool) (o : Option Slot) → p.slices ≡ map (slice_shown m) ss → find (λ s. slot_numbered n s && is_readable s) ss ≡ o
+    → read_answer n sealed p ≡ elim o [ None ↦ refused NoSuchSlice | Some s ↦ elim sealed [ true ↦ refused NoSuchSeal | false ↦ bytes_of (slot_range m s) ] ]
 unfolding read_answer
-read_seen m p ss n o e f =
-    ap told (ap (find (λ (s : Slice). has_number n s.slot && is_readable s.slot)) e ∙ find_shown m (λ (s : Slice). has_number n s.slot && is_readable s.slot) ss ∙ ap (option_map (shown m)) f) ∙ seen o
+read_seen m p ss n sealed o e f =
+    ap told (ap (find (λ (s : Slice). slot_numbered n s.slot && is_readable s.slot)) e ∙ find_shown m (λ (s : Slice). slot_numbered n s.slot && is_readable s.slot) ss ∙ ap (option_map (slice_shown m)) f) ∙ seen o
   where
     told : Option Slice → Answer
-    told o = elim o [ None ↦ refused NoSuchSlice | Some s ↦ elim false [ true ↦ share_answer s.shared | false ↦ bytes_of s.bytes ] ]
+    told o = elim o [ None ↦ refused NoSuchSlice | Some s ↦ elim sealed [ true ↦ share_answer s.shared | false ↦ bytes_of s.bytes ] ]
 
-    seen : (o : Option Slot) → told (option_map (shown m) o) ≡ elim o [ None ↦ refused NoSuchSlice | Some s ↦ bytes_of (range_of m s) ]
-    seen None = refl
-    seen (Some s) = refl
-
--- no slot has a share
-pub share_seen : (m : List ℕ) (p : Pool) (ss : List Slot) (n : ℕ) (o : Option Slot) → p.slices ≡ map (shown m) ss → find (λ s. has_number n s && is_readable s) ss ≡ o → read_answer n true p ≡ refused (elim o [ None ↦ NoSuchSlice | Some s ↦ NoSuchSeal ])
-unfolding read_answer
-share_seen m p ss n o e f =
-    ap told (ap (find (λ (s : Slice). has_number n s.slot && is_readable s.slot)) e ∙ find_shown m (λ (s : Slice). has_number n s.slot && is_readable s.slot) ss ∙ ap (option_map (shown m)) f) ∙ seen o
-  where
-    told : Option Slice → Answer
-    told o = elim o [ None ↦ refused NoSuchSlice | Some s ↦ elim true [ true ↦ share_answer s.shared | false ↦ bytes_of s.bytes ] ]
-
-    seen : (o : Option Slot) → told (option_map (shown m) o) ≡ refused (elim o [ None ↦ NoSuchSlice | Some s ↦ NoSuchSeal ])
+    seen : (o : Option Slot) → told (option_map (slice_shown m) o) ≡ elim o [ None ↦ refused NoSuchSlice | Some s ↦ elim sealed [ true ↦ refused NoSuchSeal | false ↦ bytes_of (slot_range m s) ] ]
     seen None = refl
     seen (Some s) = refl
 
 -- what is reserved goes by the table
-pub reserved_seen : (p : Pool) (ss : List Slot) (n : ℕ) (o : Option Slot) → slots p ≡ ss → find (has_number n) ss ≡ o → reserved_length n p ≡ length_reserved o
+pub reserved_seen : (p : Pool) (ss : List Slot) (n : ℕ) (o : Option Slot) → slots p ≡ ss → find (slot_numbered n) ss ≡ o → reserved_length n p ≡ length_reserved o
 unfolding reserved_length
-reserved_seen p ss n o e f = ap length_reserved (ap (find (has_number n)) e ∙ f)
+reserved_seen p ss n o e f = ap length_reserved (ap (find (slot_numbered n)) e ∙ f)
 
 -- a reserved slot has the length that is told
 pub reserved_takes : (s : Slot) (k : ℕ) → length_reserved (Some s) ≡ Some k → s.len ≡ k
@@ -76,11 +64,19 @@ reserved_takes s k h = go (is_reserved s) h
     go true h = cc
     go false h = cc
 
--- a slot that was put into the table is found there, where none had its number
-pub finds_put : (n : ℕ) (t : Slot) (ss : List Slot) → has_number n t ≡ true → AllByRecursion (λ (s : Slot). has_number n s ≡ false) ss → find (has_number n) (put_in_order is_lower t ss) ≡ Some t
-finds_put n t [] h a = ap (λ b. cond b (Some t) None) h
-finds_put n t (s ∷ ss) h a = go (is_lower t s) (finds_put n t ss h a.1)
+-- and is reserved
+pub reserved_is : (s : Slot) (k : ℕ) → length_reserved (Some s) ≡ Some k → is_reserved s ≡ true
+reserved_is s k h = go (is_reserved s) h
   where
-    go : (b : Bool) → find (has_number n) (put_in_order is_lower t ss) ≡ Some t → find (has_number n) (elim b [ true ↦ t ∷ s ∷ ss | false ↦ s ∷ put_in_order is_lower t ss ]) ≡ Some t
-    go true e = ap (λ b. cond b (Some t) (find (has_number n) (s ∷ ss))) h
-    go false e = ap (λ b. cond b (Some s) (find (has_number n) (put_in_order is_lower t ss))) a.0 ∙ e
+    go : (b : Bool) → elim b [ true ↦ Some s.len | false ↦ None ] ≡ Some k → b ≡ true
+    go true h = refl
+    go false h = cc
+
+-- a slot that was put into the table is found there, where none had its number
+pub finds_put : (n : ℕ) (t : Slot) (ss : List Slot) → slot_numbered n t ≡ true → AllByRecursion (λ (s : Slot). slot_numbered n s ≡ false) ss → find (slot_numbered n) (put_in_order lies_lower t ss) ≡ Some t
+finds_put n t [] h a = ap (λ b. cond b (Some t) None) h
+finds_put n t (s ∷ ss) h a = go (lies_lower t s) (finds_put n t ss h a.1)
+  where
+    go : (b : Bool) → find (slot_numbered n) (put_in_order lies_lower t ss) ≡ Some t → find (slot_numbered n) (elim b [ true ↦ t ∷ s ∷ ss | false ↦ s ∷ put_in_order lies_lower t ss ]) ≡ Some t
+    go true e = ap (λ b. cond b (Some t) (find (slot_numbered n) (s ∷ ss))) h
+    go false e = ap (λ b. cond b (Some s) (find (slot_numbered n) (put_in_order lies_lower t ss))) a.0 ∙ e

@@ -3,7 +3,7 @@ use Rattle.std.specs.Prelude.{◌≡◌, ◌≤◌, ◌+◌, ◌-◌, ◌⊎◌,
 use Rattle.std.proofs.Common.{ap, append_assoc, arith, inl, inr, length-append, length-drop, length-take, sym, ◌∙◌}
 use Rattle.std.proofs.Math.Seq.{drop-append-add, take-append_seam}
 use Rattle.std.proofs.lemmas.List.{drop-append-le, drop-drop, drop-take, take-append-le, take-take}
-use Rattle.kd_pool.specs.Steps.{written}
+use Rattle.kd_acts.specs.Steps.{written}
 
 -- how long what stands before the end of a write is
 front_length : (m xs : List ℕ) (at : ℕ) → at + length xs ≤ length m → length (take at m ++ xs) ≡ at + length xs

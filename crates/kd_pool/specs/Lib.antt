@@ -1,6 +1,4 @@
-pub mod State
-pub mod Steps
-pub mod Sound
-pub mod Table
+-- in reading order: what a call answers, which a reader has to believe
 pub mod Told
-pub mod Lasting
+-- what the code keeps; to believe only how a slot is seen as a slice, since all else is proved
+pub mod Table

@@ -1,28 +1,49 @@
--- The changes of a pool's table, slot by slot.
-use Rattle.std.specs.Prelude.{◌≡◌, ◌<◌, ◌≤◌, ◌%◌, ◌+◌, ◌^◌, ℕ, true, false, length, List, map, None, ℤ}
+-- What a pool keeps in its table, its book and its queue.
+use Rattle.std.specs.Prelude.{if◌then◌else◌, IfSome, Option, ◌≡◌, ◌<◌, ◌≤◌, ◌%◌, ◌+◌, ◌^◌, ℕ, Bool, false, length, List, map, Some, None}
 use Rattle.std.specs.List.{AllByRecursion}
-use Rattle.kd_model.specs.Slices.{Book, IsSound}
+use Rattle.kd_model.specs.Slices.{Book, IsSound, without_slice}
 use Rattle.kd_model.specs.declared.slice_no.TheConstants.{SLICES}
-use Rattle.kd_model.specs.Words.{in_order, those}
-use Rattle.kd_pool.specs.State.{Image, Slice, has_number, is_earlier, is_waiting, placed_of}
-use Rattle.kd_pool.specs.Sound.{range_of}
-use Rattle.kd_pool.specs.Steps.{image_of, queued}
-use Rattle.kd_pool.specs.declared.slot.Phase.{Phase}
-use Rattle.kd_pool.specs.declared.slot.Slot.{Slot}
-
--- the slot of a number in a phase, any other as it is
-abbrev pub in_phase : Phase → ℕ → Slot → Slot
-in_phase phase n s = elim (has_number n s) [ true ↦ record s { phase = phase } | false ↦ s ]
-
--- the slot of a number queued, any other as it is
-abbrev pub now_queued : ℕ → ℤ → ℕ → Slot → Slot
-now_queued n priority arrival s = elim (has_number n s) [ true ↦ queued priority arrival s | false ↦ s ]
+use Rattle.kd_model.specs.Words.{first, least, those}
+use Rattle.kd_queue.specs.declared.entry.Entry.{Entry}
+use Rattle.kd_acts.specs.Arriving.{IsBefore}
+use Rattle.kd_acts.specs.State.{Image, Slice, slot_numbered, is_reserved, is_waiting, placed_of, queue_of, waiting_slots}
+use Rattle.kd_acts.specs.Sound.{slot_range}
+use Rattle.kd_acts.specs.Steps.{image_of, of_lower_number}
+use Rattle.kd_acts.specs.declared.slot.Phase.{Phase}
+use Rattle.kd_acts.specs.declared.slot.Slot.{Slot}
 
 -- a slot with its bytes in memory
-abbrev pub shown : List ℕ → Slot → Slice
-shown memory s = record { slot = s; bytes = range_of memory s; shared = None }
+abbrev pub slice_shown : List ℕ → Slot → Slice
+slice_shown memory s = record { slot = s; bytes = slot_range memory s; shared = None }
 
--- what a pool keeps: a sound book of just the slots in its table, a memory of the book's size, and room for all numbers
+-- each slot is the one that is found by its number
+abbrev pub AreFound : List Slot → Type 0
+AreFound ss = AllByRecursion (λ (s : Slot). first (slot_numbered s.number) ss ≡ Some s) ss
+
+-- a book of just these slots
+abbrev pub with_slots : List Slot → Book → Book
+with_slots ss book = record book { slices = map placed_of ss }
+
+-- a book without the slice of the number, if it goes
+abbrev pub without_if : Bool → ℕ → Book → Book
+without_if goes n book = if goes then without_slice n book else book
+
+-- the reserved slot of the lowest number
+abbrev pub reserved_first : List Slot → Option Slot
+reserved_first ss = least of_lower_number (those is_reserved ss)
+
+-- the slice of the number waits
+abbrev pub number_waits : ℕ → List Slot → Bool
+number_waits n ss = elim (first (slot_numbered n) ss) [ None ↦ false | Some s ↦ is_waiting s ]
+
+-- in the phase, the slice of the number, if any, waits as it did
+abbrev pub WaitsAsBefore : Phase → ℕ → List Slot → Type 0
+WaitsAsBefore phase n ss =
+    IfSome (first (slot_numbered n) ss) (λ s.
+    is_waiting (record s { phase = phase }) ≡ is_waiting s)
+
+-- a sound book of just the slots in the table, a memory of the book's size, and room for all
+-- numbers
 pub record AreKept (memory : List ℕ) (book : Book) (table : List Slot) (room : ℕ) : Type 0 where
   pub tied : book.slices ≡ map placed_of table
   pub sound : IsSound book
@@ -30,13 +51,25 @@ pub record AreKept (memory : List ℕ) (book : Book) (table : List Slot) (room :
   pub fits : book.size < 2 ^ 32
   pub enough : SLICES ≤ room
 
--- the slots that wait, by rising arrival
-abbrev pub arrivals : List Slot → List Slot
-arrivals ss = in_order is_earlier (those is_waiting ss)
+-- a queue of just the slots that wait, in order of arrival, each before the next arrival number
+pub record AreQueued (table : List Slot) (queue : List Entry) (now : ℕ) : Type 0 where
+  pub order : queue ≡ queue_of table
+  pub before : AllByRecursion (IsBefore now) table
+
+-- what a pool keeps
+pub record IsPoolKept
+    (memory : List ℕ) (book : Book) (table : List Slot) (queue : List Entry) (now room : ℕ)
+    : Type 0 where
+  pub kept : AreKept memory book table room
+  pub queued : AreQueued table queue now
 
 -- the message of a slot, with its bytes in memory
 abbrev pub carried : List ℕ → Slot → Image
-carried memory s = image_of (shown memory s)
+carried memory s = image_of (slice_shown memory s)
+
+-- the messages that wait, in order of arrival, with their bytes in memory
+abbrev pub images_waiting : List ℕ → List Slot → List Image
+images_waiting memory ss = map (carried memory) (waiting_slots ss)
 
 -- a slot that lies inside a memory of a size, and has a positive multiple of 8 bytes
 pub record IsCarried (size : ℕ) (s : Slot) : Type 0 where
@@ -44,7 +77,8 @@ pub record IsCarried (size : ℕ) (s : Slot) : Type 0 where
   pub some : 0 < s.len
   pub eights : s.len % 8 ≡ 0
 
--- what a buffer of drained messages keeps: slots inside its memory, at most as many as there are numbers, and room for that many
+-- what a buffer of drained messages keeps: slots inside its memory, at most as many as there are
+-- numbers, and room for that many
 pub record AreCarried (memory : List ℕ) (rows : List Slot) (room : ℕ) : Type 0 where
   pub each : AllByRecursion (IsCarried (length memory)) rows
   pub few : length rows ≤ SLICES

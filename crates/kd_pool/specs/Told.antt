@@ -1,19 +1,23 @@
 -- What a call answers, as an answer of the definitions.
-use Rattle.std.specs.Prelude.{ℕ, ◌≡◌, ◌≤◌, ◌^◌, List, Option, Result, Ok, Err}
+use Rattle.std.specs.Prelude.{ℕ, ℤ, ◌≡◌, ◌≤◌, ◌^◌, List, None, Option, Result, Ok, Err}
 use Rattle.kd_types.specs.declared.refusal.Refusal.{Refusal}
-use Rattle.kd_pool.specs.State.{Answer, Image, Pool, drained, got, refused, slice}
-use Rattle.kd_pool.specs.Steps.{reserve_step}
-use Rattle.kd_pool.specs.declared.receive.Got.{Got}
+use Rattle.kd_acts.specs.State.{Answer, Content, Image, Pool, drained, got, refused, slice}
+use Rattle.kd_acts.specs.Steps.{reserve_step}
+use Rattle.kd_acts.specs.declared.receive.Got.{Got}
+
+-- a message without a share of sealed bytes
+abbrev pub bare : List ℕ → ℤ → Content
+bare image priority = record { image = image; shared = None; priority = priority }
 
 -- an offer
-abbrev pub offered : Result ℕ Refusal → Answer
-offered (Ok n) = slice n
-offered (Err why) = refused why
+abbrev pub offer_answer : Result ℕ Refusal → Answer
+offer_answer (Ok n) = slice n
+offer_answer (Err why) = refused why
 
 -- a receive
-abbrev pub received : Result Got Refusal → Answer
-received (Ok g) = got g.number g.offset g.length g.dropped
-received (Err why) = refused why
+abbrev pub receive_answer : Result Got Refusal → Answer
+receive_answer (Ok g) = got g.number g.offset g.length g.dropped
+receive_answer (Err why) = refused why
 
 -- a drain, with what is then in the buffer
 abbrev pub drained_into : {T : Type 0} → Result T Refusal → List Image → Answer
@@ -22,4 +26,6 @@ drained_into (Err why) images = refused why
 
 -- why nothing can be reserved of a length that no pool has
 abbrev pub RefusesLong : Refusal → Pool → Type 0
-RefusesLong why p = (len source : ℕ) (user : Option ℕ) → 2 ^ 32 ≤ len → reserve_step len user source p ≡ (p, refused why)
+RefusesLong why p =
+    (len source : ℕ) (user : Option ℕ) → 2 ^ 32 ≤ len
+    → reserve_step len user source p ≡ (p, refused why)

@@ -3,17 +3,18 @@
 ghost use Rattle.std.specs.Prelude.{[], ◌≡◌, ◌≤◌, ◌↔◌, IfOk, IsTrue, length, map, vec_capacity};
 ghost use Rattle.std.specs.List.{AllByRecursion};
 ghost use Rattle.kd_model.specs.declared.slice_no.TheConstants.{SLICES};
-ghost use Rattle.kd_pool.specs.State.{Batch};
-ghost use Rattle.kd_pool.specs.Table.{AreCarried, IsCarried, arrivals, carried};
+ghost use Rattle.kd_acts.specs.State.{Batch, queue_of};
+ghost use Rattle.kd_pool.specs.Table.{AreCarried, AreFound, IsCarried, carried, images_waiting};
 
-use crate::slot::Slot;
 use crate::{memory, table};
+use kd_acts::Slot;
 use kd_model::SLICES;
+use kd_queue::Entry;
 use std::alloc::{AllocError, Global};
 use std::marker::Model;
 
-/// Messages that were drained from a pool, on their way to another one: the bytes of the pool as they were,
-/// and the slots of the messages by rising arrival. No call but `make` takes memory.
+/// Messages that were drained from a pool, on their way to another one: the bytes of the pool as
+/// they were, and the slots of the messages by rising arrival. No call but `make` takes memory.
 #[derive(Debug, Drop)]
 pub struct Drained {
     memory: Vec<u8>,
@@ -23,7 +24,11 @@ pub struct Drained {
 impl Model for Drained {
     ghost Value = { Batch };
 
-    ghost view = { λ d. record { size = length d.memory.items; images = map (carried d.memory.items) d.rows.items } };
+    ghost view = { λ d.
+        record {
+          size = length d.memory.items;
+          images = map (carried d.memory.items) d.rows.items;
+        } };
 
     ghost invariant = { λ d. AreCarried d.memory.items d.rows.items (vec_capacity d.rows) };
 }
@@ -54,15 +59,17 @@ impl Drained {
     }
 
     /// Takes the messages over that wait in a pool.
-    pub(crate) fn take_over(&mut self, memory: &[u8], slots: &[Slot])
+    pub(crate) fn take_over(&mut self, memory: &[u8], slots: &[Slot], entries: &[Entry])
         requires size { length memory.now ≡ self.old.size }
         requires empty { self.old.images ≡ [] }
         requires few { length slots.now ≤ SLICES }
         requires each { AllByRecursion (IsCarried (length memory.now)) slots.now }
-        ensures { self.new ≡ record self.old { images = map (carried memory.now) (arrivals slots.now) } }
+        requires found { AreFound slots.now }
+        requires queued { entries.now ≡ queue_of slots.now }
+        ensures { self.new ≡ record self.old { images = images_waiting memory.now slots.now } }
     {
         self.memory.copy_from_slice(memory);
-        table::put_waiting(&mut self.rows, slots);
+        table::put_queued(&mut self.rows, slots, entries);
     }
 
     /// The memory, and the slots that lie in it.

@@ -1,12 +1,13 @@
 //! Giving the slices of slots back to their book.
 
-ghost use Rattle.std.specs.Prelude.{if◌then◌else◌, [], ◌≡◌, IsTrue, map};
-ghost use Rattle.kd_model.specs.Slices.{IsSound, is_placed, without};
+ghost use Rattle.std.specs.Prelude.{[], ◌≡◌, IsTrue, map};
+ghost use Rattle.kd_model.specs.Slices.{IsSound, is_placed};
 ghost use Rattle.kd_model.specs.Words.{but_those};
-ghost use Rattle.kd_pool.specs.State.{is_freed, is_waiting, placed_of};
+ghost use Rattle.kd_acts.specs.State.{is_freed, is_waiting, placed_of};
+ghost use Rattle.kd_pool.specs.Table.{with_slots, without_if};
 
-use crate::slot::Slot;
 use crate::table;
+use kd_acts::Slot;
 use kd_model::SliceBook;
 use kd_slices::Slices;
 
@@ -14,7 +15,7 @@ use kd_slices::Slices;
 pub fn give_back_freed(book: &mut Slices, slots: &[Slot])
     requires tied { book.old.slices ≡ map placed_of slots.now }
     requires sound { IsSound book.old }
-    ensures freed { book.new ≡ record book.old { slices = map placed_of (but_those is_freed slots.now) } }
+    ensures freed { book.new ≡ with_slots (but_those is_freed slots.now) book.old }
     ensures sound { IsSound book.new }
 {
     'slots: for slot in slots {
@@ -25,7 +26,7 @@ pub fn give_back_freed(book: &mut Slices, slots: &[Slot])
 fn give_back_if_freed(book: &mut Slices, slot: &Slot)
     requires placed { IsTrue (is_placed slot.now.number book.old) }
     requires sound { IsSound book.old }
-    ensures freed { book.new ≡ (if is_freed slot.now then without slot.now.number book.old else book.old) }
+    ensures freed { book.new ≡ without_if (is_freed slot.now) slot.now.number book.old }
     ensures sound { IsSound book.new }
 {
     if table::is_freed(slot) {
@@ -37,7 +38,7 @@ fn give_back_if_freed(book: &mut Slices, slot: &Slot)
 pub fn give_back_waiting(book: &mut Slices, slots: &[Slot])
     requires tied { book.old.slices ≡ map placed_of slots.now }
     requires sound { IsSound book.old }
-    ensures gone { book.new ≡ record book.old { slices = map placed_of (but_those is_waiting slots.now) } }
+    ensures gone { book.new ≡ with_slots (but_those is_waiting slots.now) book.old }
     ensures sound { IsSound book.new }
 {
     'slots: for slot in slots {
@@ -48,7 +49,7 @@ pub fn give_back_waiting(book: &mut Slices, slots: &[Slot])
 fn give_back_if_waiting(book: &mut Slices, slot: &Slot)
     requires placed { IsTrue (is_placed slot.now.number book.old) }
     requires sound { IsSound book.old }
-    ensures gone { book.new ≡ (if is_waiting slot.now then without slot.now.number book.old else book.old) }
+    ensures gone { book.new ≡ without_if (is_waiting slot.now) slot.now.number book.old }
     ensures sound { IsSound book.new }
 {
     if table::is_waiting(slot) {
@@ -60,7 +61,7 @@ fn give_back_if_waiting(book: &mut Slices, slot: &Slot)
 pub fn give_back_all(book: &mut Slices, slots: &[Slot])
     requires tied { book.old.slices ≡ map placed_of slots.now }
     requires sound { IsSound book.old }
-    ensures all { book.new ≡ record book.old { slices = [] } }
+    ensures all { book.new ≡ with_slots [] book.old }
     ensures sound { IsSound book.new }
 {
     'slots: for slot in slots {

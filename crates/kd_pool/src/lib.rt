@@ -1,33 +1,36 @@
 //! A pool: a region of bytes in which the bus alone allocates slices for one receiver's messages.
+//! What each call changes and answers is a step of the machine of `kd_acts`; this is the code over
+//! it.
 //!
 //! ```text
-//!     Reserved --publish--> Queued --receive--> Handed --free--> Freed --sweep--> (gone)
-//!                           |    ^                ^
-//!                           peek |                |
-//!                           v    |                |
-//!                           Peeked ----receive----+
+//!     memory   |  slice 1  |   (gap)   |  slice 0  |  slice 2  |   (gap)   |
+//!     book     1 at 0                  0 at 208    2 at 312
+//!     slots    1 Queued, 8             0 Handed, 6 2 Peeked, 7             phase, arrival
+//!     queue    2, 1                                                        the oldest first
 //! ```
 //!
-//! A sender reserves a slice by an offer and later publishes its message into it. The receiver is told the
-//! slice, reads its bytes, and frees it. A freed slice keeps its range until the next sweep, which stands
-//! at the beginning of each offer. A receive may also drop its slice at once.
+//! The book places slices and takes their ranges back. The table of slots has what is known of each
+//! slice, by rising offset as in the book. The queue has those that wait, in order of arrival, and
+//! is asked which is received next. All have room for every number from the start on, so that no
+//! call but `make` and `read` takes memory.
 //!
-//! A notice of the bus is posted: it is reserved and published at once. All messages that wait can be drained
-//! into a buffer, and settle from there in another pool.
+//! A notice of the bus is posted: it is reserved and published at once. All messages that wait can
+//! be drained into a buffer, and settle from there in another pool.
 //!
-//! After the kdbus manual page kdbus.pool; placement, slice numbers and the quota are this project's own.
+//! After the kdbus manual page kdbus.pool; placement, slice numbers and the quota are this
+//! project's own.
 #![tactic(auto)]
 
 mod drained;
 mod giving;
-mod laws;
 mod memory;
+mod moving;
+mod offering;
 mod pool;
-mod receive;
-mod slot;
+mod publishing;
+mod receiving;
 mod table;
 
 pub use drained::Drained;
-pub use laws::{handed_follows, numbers_stay, open_follows, receives_waiting, slices_last};
+pub use kd_acts::{Got, RecvMode};
 pub use pool::Pool;
-pub use receive::{Got, RecvMode};

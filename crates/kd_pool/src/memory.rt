@@ -1,7 +1,7 @@
 //! The bytes of a pool.
 
 ghost use Rattle.std.specs.Prelude.{◌≡◌, ◌+◌, ◌≤◌, ◌++◌, drop, length, take, IfOk, replicate};
-ghost use Rattle.kd_pool.specs.Steps.{written};
+ghost use Rattle.kd_acts.specs.Steps.{written};
 
 use std::alloc::{AllocError, Global};
 

@@ -2,17 +2,18 @@
 
 ghost use Rattle.std.specs.Prelude.{if◌then◌else◌, [], ◌∷◌, ◌≡◌, ◌<◌, ◌≤◌, ◌&&◌, Some, length, map, nat_lt, vec_capacity, vec_len};
 ghost use Rattle.std.specs.List.{position};
-ghost use Rattle.kd_model.specs.Words.{but_those, first, least, lesser, put_in_order, some_of, those};
-ghost use Rattle.kd_pool.specs.State.{goes_before, has_number, is_earlier, is_freed, is_lower, is_pending, is_pending_of, is_readable, is_reserved, is_waiting, is_within};
-ghost use Rattle.kd_pool.specs.Steps.{free_refusal, length_reserved, next, of_lower_number, over_quota};
-ghost use Rattle.kd_pool.specs.Table.{arrivals, in_phase, now_queued};
+ghost use Rattle.kd_model.specs.Words.{but_those, first, lesser, put_in_order, some_of};
+ghost use Rattle.kd_acts.specs.State.{slot_numbered, is_freed, lies_lower, is_pending, is_pending_of, is_readable, is_waiting, queue_of, waiting_slots};
+ghost use Rattle.kd_pool.specs.Table.{AreFound, reserved_first};
+ghost use Rattle.kd_acts.specs.Steps.{free_refusal, in_phase, length_reserved, now_queued, of_lower_number, over_quota};
 
-use crate::slot::{Phase, Slot};
+use kd_acts::{Phase, Slot};
 use kd_model::SliceNo;
+use kd_queue::Entry;
 use kd_types::Refusal;
 
-/// Whether a user's messages, with one of `len` bytes more, would take more than half of the pool or more
-/// than 32 slices. Messages that their receiver took count no more.
+/// Whether a user's messages, with one of `len` bytes more, would take more than half of the pool
+/// or more than 32 slices. Messages that their receiver took count no more.
 pub fn is_over_quota(slots: &[Slot], size: usize, user: u32, len: u32) -> bool
     requires few { length slots.now ≤ 256 }
     ensures { result ≡ over_quota size slots.now user len }
@@ -48,87 +49,9 @@ pub fn some_pending(slots: &[Slot]) -> bool
     slots.iter().any(|slot| matches!(slot.phase, Phase::Reserved | Phase::Queued | Phase::Peeked))
 }
 
-/// Whether a message waits for its receiver.
-pub fn some_waiting(slots: &[Slot]) -> bool
-    ensures { result ≡ some_of is_waiting slots.now }
-{
-    slots.iter().any(|slot| is_waiting(slot))
-}
-
-/// The slot that a receive takes: without a limit the first to arrive, else of those within the limit the
-/// one of the lowest priority number, and the first to arrive among equals.
-#[tactic(auto, unfolding(crate::specs::Steps::next))]
-pub fn next(slots: &[Slot], limit: Option<i64>) -> Option<Slot>
-    ensures { result ≡ next slots.now limit }
-{
-    match limit {
-        None => first_to_arrive(slots),
-        Some(limit) => first_within(slots, limit),
-    }
-}
-
-fn first_to_arrive(slots: &[Slot]) -> Option<Slot>
-    ensures { result ≡ least is_earlier (those is_waiting slots.now) }
-{
-    let mut best = None;
-    'slots: for slot in slots {
-        best = earlier(best, *slot);
-    }
-    best
-}
-
-/// The earlier of the best so far and a slot, if that waits.
-fn earlier(best: Option<Slot>, slot: Slot) -> Option<Slot>
-    ensures { result ≡ lesser is_earlier best (least is_earlier (those is_waiting (slot ∷ []))) }
-{
-    if !is_waiting(&slot) {
-        return best;
-    }
-    match best {
-        Some(other) if !(slot.arrival < other.arrival) => Some(other),
-        _ => Some(slot),
-    }
-}
-
-fn first_within(slots: &[Slot], limit: i64) -> Option<Slot>
-    ensures { result ≡ least goes_before (those (is_within limit) slots.now) }
-{
-    let mut best = None;
-    'slots: for slot in slots {
-        best = sooner(best, *slot, limit);
-    }
-    best
-}
-
-/// The one that goes before the other of the best so far and a slot, if that waits within the limit.
-fn sooner(best: Option<Slot>, slot: Slot, limit: i64) -> Option<Slot>
-    ensures { result ≡ lesser goes_before best (least goes_before (those (is_within limit) (slot ∷ []))) }
-{
-    if !is_within(&slot, limit) {
-        return best;
-    }
-    match best {
-        Some(other) if !goes_before(&slot, &other) => Some(other),
-        _ => Some(slot),
-    }
-}
-
-fn is_within(slot: &Slot, limit: i64) -> bool
-    ensures { result ≡ is_within limit slot.now }
-{
-    is_waiting(slot) && slot.priority <= limit
-}
-
-fn goes_before(slot: &Slot, other: &Slot) -> bool
-    ensures { result ≡ goes_before slot.now other.now }
-{
-    slot.priority < other.priority
-        || (slot.priority == other.priority && slot.arrival < other.arrival)
-}
-
 /// The reserved slot of the lowest number.
 pub fn lowest_reserved(slots: &[Slot]) -> Option<Slot>
-    ensures { result ≡ least of_lower_number (those is_reserved slots.now) }
+    ensures { result ≡ reserved_first slots.now }
 {
     let mut best = None;
     'slots: for slot in slots {
@@ -139,7 +62,7 @@ pub fn lowest_reserved(slots: &[Slot]) -> Option<Slot>
 
 /// The one of the lower number of the best so far and a slot, if that is reserved.
 fn lower_reserved(best: Option<Slot>, slot: Slot) -> Option<Slot>
-    ensures { result ≡ lesser of_lower_number best (least of_lower_number (those is_reserved (slot ∷ []))) }
+    ensures { result ≡ lesser of_lower_number best (reserved_first (slot ∷ [])) }
 {
     if !matches!(slot.phase, Phase::Reserved) {
         return best;
@@ -152,14 +75,14 @@ fn lower_reserved(best: Option<Slot>, slot: Slot) -> Option<Slot>
 
 /// The slot of a number.
 pub fn find(slots: &[Slot], number: SliceNo) -> Option<Slot>
-    ensures { result ≡ first (has_number number) slots.now }
+    ensures { result ≡ first (slot_numbered number) slots.now }
 {
     slots.iter().copied().find(|slot| slot.number == number)
 }
 
 /// The length of a reserved slice, `None` for any other number.
 pub fn reserved_length(slots: &[Slot], number: SliceNo) -> Option<u32>
-    ensures { result ≡ length_reserved (first (has_number number) slots.now) }
+    ensures { result ≡ length_reserved (first (slot_numbered number) slots.now) }
 {
     let slot = find(slots, number)?;
     if slot.phase == Phase::Reserved {
@@ -171,14 +94,14 @@ pub fn reserved_length(slots: &[Slot], number: SliceNo) -> Option<u32>
 
 /// The slot of a number, where its receiver may read it.
 pub fn find_readable(slots: &[Slot], number: SliceNo) -> Option<Slot>
-    ensures { result ≡ first (λ s. has_number number s && is_readable s) slots.now }
+    ensures { result ≡ first (λ s. slot_numbered number s && is_readable s) slots.now }
 {
     slots.iter().copied().find(|slot| slot.number == number
         && matches!(slot.phase, Phase::Peeked | Phase::Handed))
 }
 
 /// Why the receiver can't free a number, if it can't.
-#[tactic(auto, unfolding(crate::specs::Steps::free_refusal))]
+#[tactic(auto, unfolding(kd_acts::specs::Steps::free_refusal))]
 pub fn why_not_freed(slots: &[Slot], number: SliceNo) -> Option<Refusal>
     ensures { result ≡ free_refusal number slots.now }
 {
@@ -195,7 +118,7 @@ pub fn why_not_freed(slots: &[Slot], number: SliceNo) -> Option<Refusal>
 /// Puts a slot in front of the first one that lies behind it.
 pub fn put(slots: &mut Vec<Slot>, new: Slot)
     requires room { vec_len slots.old < vec_capacity slots.old }
-    ensures items { slots.new.items ≡ put_in_order is_lower new slots.old.items }
+    ensures items { slots.new.items ≡ put_in_order lies_lower new slots.old.items }
     ensures room { vec_capacity slots.old ≤ vec_capacity slots.new }
 {
     let at = first_behind(slots, new.offset).unwrap_or(slots.len());
@@ -211,7 +134,7 @@ fn first_behind(slots: &[Slot], offset: u32) -> Option<usize>
 
 /// Takes the slot of a number out.
 pub fn take_out(slots: &mut Vec<Slot>, number: SliceNo)
-    ensures items { slots.new.items ≡ but_those (has_number number) slots.old.items }
+    ensures items { slots.new.items ≡ but_those (slot_numbered number) slots.old.items }
     ensures room { vec_capacity slots.new ≡ vec_capacity slots.old }
 {
     slots.retain(|slot| !(slot.number == number));
@@ -233,43 +156,21 @@ pub fn take_out_waiting(slots: &mut Vec<Slot>)
     slots.retain(|slot| !is_waiting(slot));
 }
 
-/// Puts the slots that wait into an empty table, by rising arrival.
-pub fn put_waiting(rows: &mut Vec<Slot>, slots: &[Slot])
+/// Puts the slots of a queue's entries into an empty table, in their order.
+pub fn put_queued(rows: &mut Vec<Slot>, slots: &[Slot], entries: &[Entry])
     requires empty { rows.old.items ≡ [] }
     requires room { length slots.now ≤ vec_capacity rows.old }
-    ensures items { rows.new.items ≡ arrivals slots.now }
+    requires found { AreFound slots.now }
+    requires queued { entries.now ≡ queue_of slots.now }
+    ensures items { rows.new.items ≡ waiting_slots slots.now }
     ensures room { vec_capacity rows.old ≤ vec_capacity rows.new }
 {
-    'slots: for behind in 0..slots.len() {
-        put_if_waiting(rows, slots[slots.len() - 1 - behind]);
+    'entries: for entry in entries {
+        let Some(slot) = find(slots, entry.number) else {
+            unreachable!();
+        };
+        rows.push(slot).unwrap();
     }
-}
-
-fn put_if_waiting(rows: &mut Vec<Slot>, slot: Slot)
-    requires room { vec_len rows.old < vec_capacity rows.old }
-    ensures items { rows.new.items ≡ (if is_waiting slot then put_in_order is_earlier slot rows.old.items else rows.old.items) }
-    ensures room { vec_capacity rows.old ≤ vec_capacity rows.new }
-{
-    if is_waiting(&slot) {
-        put_by_arrival(rows, slot);
-    }
-}
-
-/// Puts a slot in front of the first one that arrived after it.
-fn put_by_arrival(rows: &mut Vec<Slot>, new: Slot)
-    requires room { vec_len rows.old < vec_capacity rows.old }
-    ensures items { rows.new.items ≡ put_in_order is_earlier new rows.old.items }
-    ensures room { vec_capacity rows.old ≤ vec_capacity rows.new }
-{
-    let at = first_after(rows, new.arrival).unwrap_or(rows.len());
-    rows.insert(at, new).unwrap();
-}
-
-/// The place of the first slot that arrived after another one.
-fn first_after(rows: &[Slot], arrival: u64) -> Option<usize>
-    ensures { result ≡ position (λ s. nat_lt arrival s.arrival) rows.now }
-{
-    rows.iter().position(|slot| arrival < slot.arrival)
 }
 
 /// Whether a slice waits for the next sweep.

@@ -1,4 +1,5 @@
 mod Rows
 pub mod Least
+pub mod Next
 pub mod Numbers
 pub mod Waits

@@ -4,11 +4,11 @@ use Rattle.std.specs.List.{AllByRecursion, IsDistinct}
 use Rattle.kd_model.specs.declared.slice_no.TheConstants.{SLICES}
 use Rattle.kd_queue.specs.declared.entry.Entry.{Entry}
 use Rattle.kd_queue.specs.declared.queue.Queue.TheInside.{Inside}
-use Rattle.kd_queue.specs.Order.{numbers}
+use Rattle.kd_queue.specs.Order.{entry_numbers}
 
 -- the numbers are below the count of a pool's slices, each of them once
 pub record AreSlices (es : List Entry) : Type 0 where
-  pub apart : IsDistinct nat_eq (numbers es)
+  pub apart : IsDistinct nat_eq (entry_numbers es)
   pub below : AllByRecursion (λ (e : Entry). e.number < SLICES) es
 
 -- the vector has room for each number that a pool has

@@ -1,9 +1,9 @@
 //! The order in which a pool's waiting slices are received.
 //!
-//! A queue holds an entry for each slice that waits. A receive without a limit takes the oldest entry;
-//! one with a limit takes, of the entries whose priority is at most the limit, the least priority, and
-//! of these the oldest. A lower number is a higher priority. That messages have priorities comes from
-//! kdbus; the order of receives is this project's own.
+//! A queue holds an entry for each slice that waits. A receive without a limit takes the oldest
+//! entry; one with a limit takes, of the entries whose priority is at most the limit, the least
+//! priority, and of these the oldest. A lower number is a higher priority. That messages have
+//! priorities comes from kdbus; the order of receives is this project's own.
 //!
 //! ```text
 //! arrival     first     second    third     fourth

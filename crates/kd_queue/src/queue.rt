@@ -1,9 +1,9 @@
 //! The entries of one pool, in order of arrival.
 
-ghost use Rattle.std.specs.Prelude.{◌≡◌, ◌<◌, [], ◌∷◌, ◌++◌, IfOk, IfSome, IsFalse, IsTrue, option_map, option_to_list, vec_capacity};
-ghost use Rattle.kd_model.specs.Words.{but_those, is_empty, least, those};
+ghost use Rattle.std.specs.Prelude.{◌≡◌, ◌<◌, [], ◌∷◌, ◌++◌, IfOk, IfSome, IsFalse, IsTrue, Some, option_map, option_to_list, vec_capacity};
+ghost use Rattle.kd_model.specs.Words.{but_those, is_empty};
 ghost use Rattle.kd_model.specs.declared.slice_no.TheConstants.{SLICES};
-ghost use Rattle.kd_queue.specs.Order.{goes_before, has_number, is_within, next_entry, number_of, oldest, waits};
+ghost use Rattle.kd_queue.specs.Order.{entry_number, has_entry, is_entry_of, most_urgent, next_entry, oldest, those_within};
 
 use crate::entry::Entry;
 use kd_model::{SLICES, SliceNo};
@@ -45,18 +45,18 @@ impl Queue {
     /// Lets a slice wait behind all others.
     pub fn push(&mut self, number: SliceNo, priority: i64)
         requires below { number < SLICES }
-        requires new { IsFalse (waits number self.old) }
+        requires new { IsFalse (has_entry number self.old) }
         ensures last { self.new ≡ self.old ++ record { number = number; priority = priority } ∷ [] }
     {
         self.entries.push(Entry { number, priority }).unwrap();
     }
 
-    /// The slice that is received next: without a limit the oldest; with one, of those whose priority is
-    /// at most the limit, the least by priority and then by arrival. None exactly where no slice waits,
-    /// or none within the limit.
+    /// The slice that is received next: without a limit the oldest; with one, of those whose
+    /// priority is at most the limit, the least by priority and then by arrival. None exactly where
+    /// no slice waits, or none within the limit.
     pub fn next(&self, limit: Option<i64>) -> Option<SliceNo>
-        ensures next { result ≡ option_map number_of (next_entry self.now limit) }
-        ensures waits { IfSome result (λ n. IsTrue (waits n self.now)) }
+        ensures next { result ≡ option_map entry_number (next_entry self.now limit) }
+        ensures waits { IfSome result (λ n. IsTrue (has_entry n self.now)) }
     {
         match limit {
             None => oldest(&self.entries),
@@ -66,10 +66,24 @@ impl Queue {
 
     /// Takes a slice out. The others keep their order.
     pub fn take(&mut self, number: SliceNo)
-        requires waits { IsTrue (waits number self.old) }
-        ensures others { self.new ≡ but_those (has_number number) self.old }
+        requires waits { IsTrue (has_entry number self.old) }
+        ensures others { self.new ≡ but_those (is_entry_of number) self.old }
     {
         remove(&mut self.entries, number);
+    }
+
+    /// Takes all slices out.
+    pub fn clear(&mut self)
+        ensures { self.new ≡ [] }
+    {
+        self.entries.clear();
+    }
+
+    /// The entries of the slices that wait, in order of arrival.
+    pub fn entries(&self) -> &[Entry]
+        ensures { result.now ≡ self.now }
+    {
+        &self.entries
     }
 
     /// Whether no slice waits.
@@ -82,7 +96,7 @@ impl Queue {
 
 /// The entry that came first.
 fn oldest(entries: &[Entry]) -> Option<SliceNo>
-    ensures { result ≡ option_map number_of (oldest entries.now) }
+    ensures { result ≡ option_map entry_number (oldest entries.now) }
 {
     match entries {
         [] => None,
@@ -92,7 +106,7 @@ fn oldest(entries: &[Entry]) -> Option<SliceNo>
 
 /// Of the entries within the limit the least priority, and of equals the one that came first.
 fn least_within(entries: &[Entry], limit: i64) -> Option<SliceNo>
-    ensures { result ≡ option_map number_of (least goes_before (those (is_within limit) entries.now)) }
+    ensures { result ≡ option_map entry_number (next_entry entries.now (Some limit)) }
 {
     let mut best: Option<Entry> = None;
     'entries: for entry in entries {
@@ -103,7 +117,7 @@ fn least_within(entries: &[Entry], limit: i64) -> Option<SliceNo>
 
 /// The best so far, unless the entry behind it is within the limit and goes before it.
 fn better(best: Option<Entry>, entry: Entry, limit: i64) -> Option<Entry>
-    ensures { result ≡ least goes_before (option_to_list best ++ those (is_within limit) (entry ∷ [])) }
+    ensures { result ≡ most_urgent (option_to_list best ++ those_within limit (entry ∷ [])) }
 {
     if entry.priority > limit {
         return best;
@@ -119,7 +133,7 @@ fn better(best: Option<Entry>, entry: Entry, limit: i64) -> Option<Entry>
 }
 
 fn remove(entries: &mut Vec<Entry>, number: SliceNo)
-    ensures others { entries.new.items ≡ but_those (has_number number) entries.old.items }
+    ensures others { entries.new.items ≡ but_those (is_entry_of number) entries.old.items }
     ensures room { vec_capacity entries.new ≡ vec_capacity entries.old }
 {
     entries.retain(|entry| entry.number != number);

@@ -1,4 +1,3 @@
-pub mod Order
 pub mod Filters
 pub mod Ranked
 pub mod Places

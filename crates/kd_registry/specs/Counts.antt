@@ -4,7 +4,7 @@ use Rattle.std.specs.List.{sum_by}
 use Rattle.kd_model.specs.Words.{those}
 use Rattle.kd_registry.specs.declared.claim.Claim.{Claim}
 use Rattle.kd_registry.specs.declared.holdings.Holding.{Holding}
-use Rattle.kd_registry.specs.Claims.{is_ordinary}
+use Rattle.kd_registry.specs.Claims.{is_ordinary_claim}
 
 -- The rows
 
@@ -43,16 +43,16 @@ abbrev pub one_if : Bool → ℕ
 one_if b = if b then 1 else 0
 
 -- a row's count if its connection is chosen
-abbrev pub share : (ℕ → Bool) → Holding → ℕ
-share chosen h = if chosen h.id then h.count else 0
+abbrev pub row_count : (ℕ → Bool) → Holding → ℕ
+row_count chosen h = if chosen h.id then h.count else 0
 
 -- how many claims the chosen connections have, by the rows
-abbrev pub counted : (ℕ → Bool) → List Holding → ℕ
-counted chosen rows = sum_by (share chosen) rows
+abbrev pub claim_count : (ℕ → Bool) → List Holding → ℕ
+claim_count chosen rows = sum_by (row_count chosen) rows
 
 -- an ordinary claim of a chosen connection
 abbrev pub is_chosen : (ℕ → Bool) → Claim → Bool
-is_chosen chosen c = is_ordinary c && chosen c.id
+is_chosen chosen c = is_ordinary_claim c && chosen c.id
 
 abbrev pub weight : (ℕ → Bool) → Claim → ℕ
 weight chosen c = one_if (is_chosen chosen c)
@@ -63,4 +63,4 @@ claimed chosen claims = length (those (is_chosen chosen) claims)
 
 -- the rows tell the claims
 abbrev pub Tells : List Holding → List Claim → Type 0
-Tells rows claims = (chosen : ℕ → Bool) → counted chosen rows ≡ claimed chosen claims
+Tells rows claims = (chosen : ℕ → Bool) → claim_count chosen rows ≡ claimed chosen claims

@@ -2,7 +2,7 @@
 
 ghost use Rattle.std.specs.Prelude.{◌≡◌, ◌<◌, ◌&&◌, not, nat_le, length};
 ghost use Rattle.kd_model.specs.Words.{some_of};
-ghost use Rattle.kd_registry.specs.Claims.{acquired, activator_answer, after_activator, asked, claim_of, held, is_of, judged};
+ghost use Rattle.kd_registry.specs.Claims.{acquired, activator_answer, after_activator, asked, claim_of, held, is_claim_of, judged};
 
 use crate::book::Book;
 use crate::claim::{Claim, Stake, Verdict};
@@ -12,8 +12,8 @@ use crate::search::{has_activator, has_claim, ranks};
 use kd_name::is_name;
 use kd_types::{ConnId, NameFlags, Refusal, Text};
 
-/// What an acquire is answered, by the claims on the name. `is_over` says that the connection has none of
-/// them and can't have one more.
+/// What an acquire is answered, by the claims on the name. `is_over` says that the connection has
+/// none of them and can't have one more.
 fn judge(ranks: &[Claim], id: ConnId, flags: NameFlags, is_over: bool) -> Result<Verdict, Refusal>
     ensures { result ≡ judged id flags is_over ranks.now }
 {
@@ -52,7 +52,7 @@ fn judge(ranks: &[Claim], id: ConnId, flags: NameFlags, is_over: bool) -> Result
 
 /// Whether a connection without a claim on a name has as many others as it may have.
 fn is_over(book: &Book, ranks: &[Claim], id: ConnId) -> bool
-    ensures { result ≡ (not (some_of (is_of id) ranks.now) && nat_le 64 (held book.now id)) }
+    ensures { result ≡ (not (some_of (is_claim_of id) ranks.now) && nat_le 64 (held book.now id)) }
 {
     !has_claim(ranks, id) && book.held(id) >= CLAIM_LIMIT
 }
@@ -69,11 +69,11 @@ impl Registry {
         judge(mine, id, flags, is_over(&self.book, mine, id))
     }
 
-    /// An ordinary connection asks for a name. The first of these cases that holds decides: the text is no
-    /// name, BadName; the connection is the owner, AlreadyOwned; it has [`CLAIM_LIMIT`] claims and none on
-    /// this name, TooMany; nobody but an activator claims the name, and it becomes the owner; the owner
-    /// allows to be replaced and the connection asks to replace, and it becomes the owner; it asks to queue,
-    /// and it is queued; NameTaken.
+    /// An ordinary connection asks for a name. The first of these cases that holds decides: the
+    /// text is no name, BadName; the connection is the owner, AlreadyOwned; it has [`CLAIM_LIMIT`]
+    /// claims and none on this name, TooMany; nobody but an activator claims the name, and it
+    /// becomes the owner; the owner allows to be replaced and the connection asks to replace, and
+    /// it becomes the owner; it asks to queue, and it is queued; NameTaken.
     pub fn acquire(&mut self, id: ConnId, name: Text, flags: NameFlags) -> Result<Verdict, Refusal>
         // A connection that may have one more claim finds room for it.
         requires room { held self.old id < 64 → length self.old < 4160 }
@@ -106,8 +106,8 @@ impl Registry {
         Ok(())
     }
 
-    /// Makes the connection the activator of the name: BadName where the text is no name, NameTaken where
-    /// the name has an activator.
+    /// Makes the connection the activator of the name: BadName where the text is no name, NameTaken
+    /// where the name has an activator.
     pub fn set_activator(&mut self, id: ConnId, name: Text) -> Result<(), Refusal>
         requires room { length self.old < 4160 }
         ensures answer { result ≡ activator_answer self.old name }

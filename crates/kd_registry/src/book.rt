@@ -30,7 +30,9 @@ impl Model for Book {
 
     ghost view = { λ b. b.claims.items };
 
-    ghost invariant = { λ b. Tells b.holdings b.claims.items × (vec_len b.claims ≤ 4160) × (4160 ≤ vec_capacity b.claims) };
+    ghost invariant = { λ b.
+        Tells b.holdings b.claims.items × (vec_len b.claims ≤ 4160)
+        × (4160 ≤ vec_capacity b.claims) };
 }
 
 impl Book {

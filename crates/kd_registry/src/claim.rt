@@ -1,7 +1,7 @@
 //! Claims on names, and the answers that speak of them.
 
 ghost use Rattle.std.specs.Prelude.{◌≡◌};
-ghost use Rattle.kd_registry.specs.Claims.{allows, is_of, is_ordinary, queues};
+ghost use Rattle.kd_registry.specs.Claims.{allows, is_claim_of, is_ordinary_claim, queues};
 
 use kd_types::{ConnId, NameFlags, Text};
 
@@ -24,14 +24,14 @@ pub struct Claim {
 
 impl Claim {
     pub(crate) fn is_ordinary(&self) -> bool
-        ensures { result ≡ is_ordinary self.now }
+        ensures { result ≡ is_ordinary_claim self.now }
     {
         matches!(self.stake, Stake::Ordinary(_))
     }
 
     /// Whether it is an ordinary claim of the connection.
     pub(crate) fn is_of(&self, id: ConnId) -> bool
-        ensures { result ≡ is_of id self.now }
+        ensures { result ≡ is_claim_of id self.now }
     {
         self.is_ordinary() && self.id == id
     }
@@ -60,22 +60,14 @@ impl Claim {
 /// What an acquire makes of the caller.
 #[derive(Clone, Copy, Debug, PartialEq, Eq)]
 pub enum Verdict {
-    /// It is the owner. `old` is the owner before, 0 for none; `activator` is that owner where it was an
-    /// activator, whose queued messages are handed over.
+    /// It is the owner. `old` is the owner before, 0 for none; `activator` is that owner where it
+    /// was an activator, whose queued messages are handed over.
     Owner {
         old: ConnId,
         activator: Option<ConnId>,
     },
     /// It waits in the queue.
     Queued,
-}
-
-/// A name whose owner is another than before, 0 for none.
-#[derive(Debug, Drop)]
-pub struct Change {
-    pub name: Text,
-    pub old: ConnId,
-    pub new: ConnId,
 }
 
 /// A row of the list of names.

@@ -1,10 +1,10 @@
 //! Edits of the claims, each of one claim at its place.
 //!
-//! They stand apart from the registry since a claim may be missing, or one too many, between two of them.
+//! They stand apart from the registry since a claim may be missing, or one too many, between two of
+//! them.
 
 ghost use Rattle.std.specs.Prelude.{◌≡◌, ◌+◌, ◌<◌, ◌≤◌, ◌++◌, [], ◌∷◌, IsTrue, length};
-ghost use Rattle.kd_model.specs.Words.{but_those, those};
-ghost use Rattle.kd_registry.specs.Claims.{gives_way, is_of, is_ordinary, queued, ranked, ranks, released, staying, taken, with_ranks};
+ghost use Rattle.kd_registry.specs.Claims.{gives_way, held_on, queued_claims, ranked, ranks, released, staying, taken, with_ranks};
 
 use crate::book::Book;
 use crate::claim::Claim;
@@ -15,7 +15,7 @@ use kd_types::ConnId;
 pub(crate) fn withdraw(book: &mut Book, id: ConnId, name: &[u8])
     requires { IsTrue (ranked book.old) }
     ensures items { book.new ≡ released book.old id name.now }
-    ensures len { length book.new + length (those (is_of id) (ranks book.old name.now)) ≡ length book.old }
+    ensures len { length book.new + held_on book.old id name.now ≡ length book.old }
 {
     let start = start_of(book.claims(), name);
     let mine = ranks(book.claims(), name);
@@ -54,28 +54,24 @@ pub(crate) fn put_first(book: &mut Book, claim: Claim)
 /// Makes the claim the owner's; an older one of its connection goes.
 pub(crate) fn take(book: &mut Book, claim: Claim)
     requires ranked { IsTrue (ranked book.old) }
-    requires room { length book.old < 4160
-        + length (those (is_of claim.id) (ranks book.old claim.name)) }
+    requires room { length book.old < 4160 + held_on book.old claim.id claim.name }
     ensures items { book.new ≡ with_ranks book.old claim.name
         (taken claim (ranks book.old claim.name)) }
-    ensures len { length book.new + length (those (is_of claim.id) (ranks book.old claim.name))
-        ≤ length book.old + 1 }
+    ensures len { length book.new + held_on book.old claim.id claim.name ≤ length book.old + 1 }
 {
     withdraw(book, claim.id, claim.name.bytes());
     put_first(book, claim);
 }
 
-/// Puts a claim into the queue: in the place of an older one of its connection, else behind all others and
-/// before the activator's.
+/// Puts a claim into the queue: in the place of an older one of its connection, else behind all
+/// others and before the activator's.
 pub(crate) fn put_in_queue(book: &mut Book, claim: Claim)
     requires ranked { IsTrue (ranked book.old) }
     requires short { length book.old ≤ 4160 }
-    requires room { length book.old < 4160
-        + length (those (is_of claim.id) (ranks book.old claim.name)) }
+    requires room { length book.old < 4160 + held_on book.old claim.id claim.name }
     ensures items { book.new ≡ with_ranks book.old claim.name
-        (queued claim (ranks book.old claim.name)) }
-    ensures len { length book.new + length (those (is_of claim.id) (ranks book.old claim.name))
-        ≤ length book.old + 1 }
+        (queued_claims claim (ranks book.old claim.name)) }
+    ensures len { length book.new + held_on book.old claim.id claim.name ≤ length book.old + 1 }
 {
     let start = start_of(book.claims(), claim.name.bytes());
     let mine = ranks(book.claims(), claim.name.bytes());

@@ -1,7 +1,7 @@
 //! How many claims each connection has.
 
 ghost use Rattle.std.specs.Prelude.{◌≡◌, ℕ, ◌+◌, ◌<◌, ◌≤◌, Bool, [], IfOk, IfErr};
-ghost use Rattle.kd_registry.specs.Counts.{IsAt, IsGapFor, AreRows, anyone, but, counted, one_if, only, weight};
+ghost use Rattle.kd_registry.specs.Counts.{IsAt, IsGapFor, AreRows, anyone, but, claim_count, one_if, only, weight};
 
 use crate::claim::Claim;
 use crate::registry::ROOM;
@@ -16,7 +16,8 @@ pub(crate) struct Holding {
     count: usize,
 }
 
-/// A row for each connection that has claims, by rising id, with room for as many as there can be claims.
+/// A row for each connection that has claims, by rising id, with room for as many as there can be
+/// claims.
 #[derive(Debug, Drop)]
 pub(crate) struct Holdings {
     rows: Vec<Holding>,
@@ -55,7 +56,7 @@ impl Holdings {
 
     /// How many claims the connection has.
     pub(crate) fn of(&self, id: ConnId) -> usize
-        ensures { result ≡ counted (only id) self.now }
+        ensures { result ≡ claim_count (only id) self.now }
     {
         match find(&self.rows, id) {
             Ok(place) => self.rows[place].count,
@@ -65,8 +66,9 @@ impl Holdings {
 
     /// One claim more of the connection.
     fn add(&mut self, id: ConnId)
-        requires { counted anyone self.old < 4160 }
-        ensures { (chosen : ℕ → Bool) → counted chosen self.new ≡ counted chosen self.old + one_if (chosen id) }
+        requires { claim_count anyone self.old < 4160 }
+        ensures { (chosen : ℕ → Bool)
+            → claim_count chosen self.new ≡ claim_count chosen self.old + one_if (chosen id) }
     {
         match find(&self.rows, id) {
             Ok(place) => {
@@ -81,8 +83,9 @@ impl Holdings {
 
     /// One claim less of the connection, which has some.
     fn take_off(&mut self, id: ConnId)
-        requires { 0 < counted (only id) self.old }
-        ensures { (chosen : ℕ → Bool) → counted chosen self.new + one_if (chosen id) ≡ counted chosen self.old }
+        requires { 0 < claim_count (only id) self.old }
+        ensures { (chosen : ℕ → Bool)
+            → claim_count chosen self.new + one_if (chosen id) ≡ claim_count chosen self.old }
     {
         if let Ok(place) = find(&self.rows, id) {
             let count = self.rows[place].count;
@@ -99,8 +102,9 @@ impl Holdings {
 
     /// The claim came; an activator's isn't counted.
     pub(crate) fn enter(&mut self, claim: &Claim)
-        requires { counted anyone self.old < 4160 }
-        ensures { (chosen : ℕ → Bool) → counted chosen self.new ≡ counted chosen self.old + weight chosen claim.now }
+        requires { claim_count anyone self.old < 4160 }
+        ensures { (chosen : ℕ → Bool)
+            → claim_count chosen self.new ≡ claim_count chosen self.old + weight chosen claim.now }
     {
         if claim.is_ordinary() {
             self.add(claim.id);
@@ -109,8 +113,9 @@ impl Holdings {
 
     /// The claim goes.
     pub(crate) fn strike(&mut self, claim: &Claim)
-        requires { weight (only claim.now.id) claim.now ≤ counted (only claim.now.id) self.old }
-        ensures { (chosen : ℕ → Bool) → counted chosen self.new + weight chosen claim.now ≡ counted chosen self.old }
+        requires { weight (only claim.now.id) claim.now ≤ claim_count (only claim.now.id) self.old }
+        ensures { (chosen : ℕ → Bool)
+            → claim_count chosen self.new + weight chosen claim.now ≡ claim_count chosen self.old }
     {
         if claim.is_ordinary() {
             self.take_off(claim.id);
@@ -119,7 +124,8 @@ impl Holdings {
 
     /// All claims of the connection go.
     pub(crate) fn clear(&mut self, id: ConnId)
-        ensures { (chosen : ℕ → Bool) → counted chosen self.new ≡ counted (but chosen id) self.old }
+        ensures { (chosen : ℕ → Bool)
+            → claim_count chosen self.new ≡ claim_count (but chosen id) self.old }
     {
         if let Ok(place) = find(&self.rows, id) {
             self.rows.remove(place);

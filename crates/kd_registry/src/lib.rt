@@ -1,13 +1,13 @@
 //! Who owns which well-known name, after kdbus.name.
 //!
-//! Connections claim names. The claims on a name have ranks: the first is the owner's, the others wait in
-//! the queue. An activator is a placeholder that owns its name while no ordinary connection claims it, so
-//! its claim stands behind all others.
+//! Connections claim names. The claims on a name have ranks: the first is the owner's, the others
+//! wait in the queue. An activator is a placeholder that owns its name while no ordinary connection
+//! claims it, so its claim stands behind all others.
 //!
-//! All claims stand in one vector, by name in byte order and then by rank. A second one, by id, has how many
-//! ordinary claims each connection has, so an acquire that asks for the limit looks at no other name. Both
-//! are made with room for every claim that a bus can have, so no call that acquires or releases takes
-//! memory; a name and a connection are found by binary search.
+//! All claims stand in one vector, by name in byte order and then by rank. A second one, by id, has
+//! how many ordinary claims each connection has, so an acquire that asks for the limit looks at no
+//! other name. Both are made with room for every claim that a bus can have, so no call that
+//! acquires or releases takes memory; a name and a connection are found by binary search.
 //!
 //! ```text
 //!            a.b   a.b   a.b       c.d          x.y
@@ -32,5 +32,5 @@ mod registry;
 mod releasing;
 mod search;
 
-pub use claim::{Change, Claim, Listed, Stake, Verdict};
+pub use claim::{Claim, Listed, Stake, Verdict};
 pub use registry::{CLAIM_LIMIT, ROOM, Registry};

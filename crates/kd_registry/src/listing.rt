@@ -1,21 +1,20 @@
 //! What is told of all names at once.
 
-ghost use Rattle.std.specs.Prelude.{◌≡◌, ◌==◌, ◌&&◌, not, IsTrue, IfOk};
-ghost use Rattle.std.specs.Bool.{beq};
+ghost use Rattle.std.specs.Prelude.{◌≡◌, not, IsTrue, IfOk};
 ghost use Rattle.kd_model.specs.Words.{contains, first};
 ghost use Rattle.kd_registry.specs.declared.claim.Claim.{Claim};
-ghost use Rattle.kd_registry.specs.Claims.{id_of, is_ordinary, owner_id, ranked};
-ghost use Rattle.kd_registry.specs.Changes.{TellsOwners, changes_without, is_owners, is_wanted, listing, names_of, standing, without};
+ghost use Rattle.kd_registry.specs.Claims.{id_of, owner_id, ranked};
+ghost use Rattle.kd_registry.specs.Changes.{TellsOwners, changes_without, is_owners, is_same_claim, is_wanted, listing, names_of, claim_standing, claims_without};
 
-use crate::claim::{Change, Claim, Listed};
+use crate::claim::{Claim, Listed};
 use crate::registry::Registry;
 use crate::search::{owner_of, ranks};
-use kd_types::{ConnId, ListFlags, Text};
+use kd_types::{ConnId, ListFlags, OwnerChange, Text};
 use std::alloc::{AllocError, Global};
 
 /// Whether two claims on a name are one: a connection has one of each kind at most.
 fn is_same(a: &Claim, b: &Claim) -> bool
-    ensures { result ≡ (a.now.id == b.now.id && beq (is_ordinary a.now) (is_ordinary b.now)) }
+    ensures { result ≡ is_same_claim a.now b.now }
 {
     a.id == b.id && a.is_ordinary() == b.is_ordinary()
 }
@@ -34,7 +33,7 @@ fn is_owners(claims: &[Claim], claim: &Claim) -> bool
 /// The standing of a claim: 4 for an activator, 1 for another owner, 2 in the queue.
 fn standing(claims: &[Claim], claim: &Claim) -> u64
     requires { IsTrue (ranked claims.now) }
-    ensures { result ≡ standing claims.now claim.now }
+    ensures { result ≡ claim_standing claims.now claim.now }
 {
     if !claim.is_ordinary() {
         return 4;
@@ -105,12 +104,12 @@ fn first_without(ranks: &[Claim], ids: &[ConnId]) -> ConnId
 /// Who owns a name without these connections; 0 for nobody.
 fn owner_without(claims: &[Claim], ids: &[ConnId], name: &[u8]) -> ConnId
     requires { IsTrue (ranked claims.now) }
-    ensures { result ≡ owner_id (without ids.now claims.now) name.now }
+    ensures { result ≡ owner_id (claims_without ids.now claims.now) name.now }
 {
     first_without(ranks(claims, name), ids)
 }
 
-fn changes(alloc: Global, claims: &[Claim], ids: &[ConnId]) -> Result<Vec<Change>, AllocError>
+fn changes(alloc: Global, claims: &[Claim], ids: &[ConnId]) -> Result<Vec<OwnerChange>, AllocError>
     requires { IsTrue (ranked claims.now) }
     ensures { IfOk result (λ changes. changes.items ≡ changes_without claims.now ids.now) }
 {
@@ -119,7 +118,7 @@ fn changes(alloc: Global, claims: &[Claim], ids: &[ConnId]) -> Result<Vec<Change
         if is_among(claim.id, ids) && is_owners(claims, claim) {
             let name = Text::of(alloc, claim.name.bytes())?;
             let new = owner_without(claims, ids, claim.name.bytes());
-            changes.push(Change {
+            changes.push(OwnerChange {
                 name,
                 old: claim.id,
                 new,
@@ -146,8 +145,13 @@ impl Registry {
     }
 
     /// The owner changes if all of these connections left at once, by name.
-    pub fn changes_without(&self, alloc: Global, ids: &[ConnId]) -> Result<Vec<Change>, AllocError>
-        ensures changes { IfOk result (λ changes. changes.items ≡ changes_without self.now ids.now) }
+    pub fn changes_without(
+        &self,
+        alloc: Global,
+        ids: &[ConnId],
+    ) -> Result<Vec<OwnerChange>, AllocError>
+        ensures changes { IfOk result
+            (λ changes. changes.items ≡ changes_without self.now ids.now) }
         ensures owners { IfOk result (λ changes. TellsOwners self.now ids.now changes.items) }
     {
         changes(alloc, self.book.claims(), ids)

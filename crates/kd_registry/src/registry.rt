@@ -12,11 +12,12 @@ use std::marker::Model;
 /// The most claims of one connection, as owner or in a queue.
 pub const CLAIM_LIMIT: usize = 64;
 
-/// The room for claims: 64 of each of the 64 connections that a bus can have at once, and one for each of
-/// them that may be an activator.
+/// The room for claims: 64 of each of the 64 connections that a bus can have at once, and one for
+/// each of them that may be an activator.
 pub const ROOM: usize = 4160;
 
-/// The claims on all names. A contract sees them as one list, by name in byte order and then by rank.
+/// The claims on all names. A contract sees them as one list, by name in byte order and then by
+/// rank.
 #[derive(Debug, Drop)]
 pub struct Registry {
     pub(crate) book: Book,

@@ -38,9 +38,9 @@ impl Registry {
         Ok(heir(mine, id))
     }
 
-    /// A connection gives up its claim on a name, as owner or in the queue. Answers the owner after that, 0
-    /// for none: BadName where the text is no name, NoSuchName where nobody owns it, NotOwner where the
-    /// connection has no claim on it.
+    /// A connection gives up its claim on a name, as owner or in the queue. Answers the owner after
+    /// that, 0 for none: BadName where the text is no name, NoSuchName where nobody owns it,
+    /// NotOwner where the connection has no claim on it.
     pub fn release(&mut self, id: ConnId, name: &[u8]) -> Result<ConnId, Refusal>
         ensures answer { result ≡ release_answer self.old id name.now }
         ensures after { self.new ≡ after_release self.old id name.now result }

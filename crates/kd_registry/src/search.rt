@@ -3,7 +3,7 @@
 ghost use Rattle.std.specs.Prelude.{option_map, ◌≡◌, ◌+◌, ◌≤◌, IsTrue, length};
 ghost use Rattle.std.specs.List.{position};
 ghost use Rattle.kd_model.specs.Words.{some_of, text_below, those};
-ghost use Rattle.kd_registry.specs.Claims.{is_of, is_ordinary, head, is_placeholder, lower, owner, ranked, ranks};
+ghost use Rattle.kd_registry.specs.Claims.{is_claim_of, is_ordinary_claim, head, is_placeholder, lower, owner, ranked, ranks};
 
 use crate::claim::Claim;
 use kd_types::ConnId;
@@ -27,7 +27,8 @@ pub(crate) fn start_of(claims: &[Claim], name: &[u8]) -> usize
 /// Where they end.
 pub(crate) fn end_of(claims: &[Claim], name: &[u8]) -> usize
     requires { IsTrue (ranked claims.now) }
-    ensures place { result ≡ length (lower claims.now name.now) + length (ranks claims.now name.now) }
+    ensures place { result
+        ≡ length (lower claims.now name.now) + length (ranks claims.now name.now) }
     ensures within { result ≤ length claims.now }
 {
     claims.partition_point(|claim| !is_below(name, claim.name.bytes()))
@@ -63,21 +64,21 @@ pub(crate) fn owner_of<'a>(claims: &'a [Claim], name: &[u8]) -> Option<&'a Claim
 
 /// Whether a connection has an ordinary claim on a name.
 pub(crate) fn has_claim(ranks: &[Claim], id: ConnId) -> bool
-    ensures { result ≡ some_of (is_of id) ranks.now }
+    ensures { result ≡ some_of (is_claim_of id) ranks.now }
 {
     ranks.iter().any(|claim| claim.is_of(id))
 }
 
 /// The rank of a connection's ordinary claim among those on a name.
 pub(crate) fn rank_of(ranks: &[Claim], id: ConnId) -> Option<usize>
-    ensures { result ≡ position (is_of id) ranks.now }
+    ensures { result ≡ position (is_claim_of id) ranks.now }
 {
     ranks.iter().position(|claim| claim.is_of(id))
 }
 
 /// How many ordinary claims stand on a name.
 pub(crate) fn ordinary_count(ranks: &[Claim]) -> usize
-    ensures { result ≡ length (those is_ordinary ranks.now) }
+    ensures { result ≡ length (those is_ordinary_claim ranks.now) }
 {
     ranks.iter().filter(|claim| claim.is_ordinary()).count()
 }

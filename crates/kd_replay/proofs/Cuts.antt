@@ -1,25 +1,14 @@
 -- The frame at the front of some bytes.
-use Rattle.std.proofs.Common.{◌≡◌, ℕ, ◌≤◌, ◌%◌, Bool, true, false, cond, ◌||◌, not, eqb, ltb, List, ◌++◌, length, take, refl, sym, ap, ◌∙◌, length-append, arith}
+use Rattle.std.proofs.Common.{◌≡◌, ℕ, ◌≤◌, ◌%◌, false, ◌||◌, not, eqb, ltb, List, ◌++◌, length, take, refl, sym, ap, ◌∙◌, length-append, arith}
 use Rattle.std.proofs.lemmas.Bool.{ltb-false, le-ltb}
 use Rattle.std.proofs.lemmas.List.{length-take-le}
 use Rattle.byteorder.specs.Numbers.{little_from-append, little_from-take}
 use Rattle.kd_item.specs.Spelling.{number}
-use Rattle.kd_wire.specs.declared.frame.Cut.{Cut}
 use Rattle.kd_wire.specs.declared.frame.Cut.TheVariants.{Frame, Need, Bad}
 use Rattle.kd_wire.specs.Frames.{cut_of, is_no_size}
-use Rattle.kd_wire.proofs.Parts as parts
+use Rattle.kd_model.proofs.Truth.{both_false}
+use Rattle.kd_wire.proofs.Accepted.{need_not, bad_not, frame_size}
 use Rattle.kd_replay.specs.Frames.{IsFrame, HasNoFrame}
-
-need_not : (b : Bool) (n : ℕ) (y : Cut) (m : ℕ) → cond b (Need n) y ≡ Frame m → (b ≡ false) × (y ≡ Frame m)
-need_not true n y m e = absurd cc
-need_not false n y m e = (refl, e)
-
-bad_not : (b : Bool) (y : Cut) (m : ℕ) → cond b Bad y ≡ Frame m → (b ≡ false) × (y ≡ Frame m)
-bad_not true y m e = absurd cc
-bad_not false y m e = (refl, e)
-
-same_size : (n m : ℕ) → Frame n ≡ Frame m → n ≡ m
-same_size n m e = cc
 
 -- what a frame of this size at the front says of the bytes
 pub record Begins (bytes : List ℕ) (n : ℕ) : Type 0 where
@@ -33,7 +22,7 @@ begins bytes n e =
     let a = need_not (ltb (length bytes) 8) 8 _ n e in
     let b = bad_not (is_no_size (number bytes)) _ n a.1 in
     let c = need_not (ltb (length bytes) (number bytes)) (number bytes) (Frame (number bytes)) n b.1 in
-    let is : number bytes ≡ n = same_size (number bytes) n c.1 in
+    let is : number bytes ≡ n = frame_size (number bytes) n c.1 in
     let inside : number bytes ≤ length bytes = ltb-false _ _ c.0 in
     record { long = ltb-false _ _ a.0; sized = rw (← is) b.0; inside = omega arith; is = is }
 
@@ -45,8 +34,8 @@ built bytes n b =
 
 least : (n : ℕ) → is_no_size n ≡ false → 32 ≤ n
 least n e =
-    let x = parts.neither (ltb n 32 || ltb 131072 n) (not (eqb (n % 8) 0)) e in
-    let y = parts.neither (ltb n 32) (ltb 131072 n) x.0 in
+    let x = both_false (ltb n 32 || ltb 131072 n) (not (eqb (n % 8) 0)) e in
+    let y = both_false (ltb n 32) (ltb 131072 n) x.0 in
     ltb-false _ _ y.0
 
 number-append : (frame rest : List ℕ) → 8 ≤ length frame → number (frame ++ rest) ≡ number frame

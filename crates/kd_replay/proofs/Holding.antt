@@ -1,9 +1,12 @@
 -- Who holds the desk before and after an event, and that the callers stay 64.
 use Rattle.std.proofs.Common.{◌≡◌, ℕ, ◌-◌, Bool, length, Option, Some, None, refl, ◌∙◌}
 use Rattle.std.proofs.lemmas.List.{length-set}
-use Rattle.kd_pool.specs.declared.receive.RecvMode.{RecvMode}
-use Rattle.kd_world.specs.World.{World, Event, Holder, take, visit, leave, publishes, receives, reads, frees, new_world, callers_after, holder_after, step}
-use Rattle.kd_replay.specs.Turns.{IsReady, opening}
+use Rattle.kd_acts.specs.declared.receive.RecvMode.{RecvMode}
+use Rattle.kd_world.specs.State.{World, Holder, new_world}
+use Rattle.kd_world.specs.Legal.{Event, take, visit, leave, publishes, receives, reads, frees}
+use Rattle.kd_world.specs.Callers.{callers_after}
+use Rattle.kd_world.specs.Step.{holder_after, step}
+use Rattle.kd_replay.specs.Turns.{IsReady, replay_world}
 
 left_callers : (w : World) (n : ℕ) (o : Option Holder) → o ≡ w.holder → length (callers_after w (leave n)) ≡ length w.callers
 unfolding callers_after
@@ -21,7 +24,7 @@ callers_stay w (receives n mode) = length-set w.callers (n - 1) _
 callers_stay w (reads n number sealed) = refl
 callers_stay w (frees n number) = length-set w.callers (n - 1) _
 
-pub opens_ready : IsReady opening
+pub opens_ready : IsReady replay_world
 unfolding new_world
 opens_ready = record { free = refl; callers = refl }
 

@@ -5,58 +5,62 @@ use Rattle.kd_types.specs.declared.refusal.Refusal.TheVariants.{Unsupported}
 use Rattle.kd_wire.specs.declared.command.Command.{Command}
 use Rattle.kd_wire.specs.declared.command.Command.TheVariants as cmd
 use Rattle.kd_wire.specs.declared.port.Port.TheVariants.{Replay}
+use Rattle.kd_wire.specs.Opcodes.{opcode_number}
+use Rattle.kd_wire.specs.Ports.{takes_opcode}
 use Rattle.kd_wire.specs.Commands.{opcode_in}
-use Rattle.kd_wire.specs.Opcodes.{number_of}
-use Rattle.kd_wire.specs.Ports.{runs as runs_in}
 use Rattle.kd_wire.specs.WellFormed.{is_well_formed}
-use Rattle.kd_wire.proofs.Parts.{both}
+use Rattle.kd_model.proofs.Truth.{both_true, option_cases}
 use Rattle.kd_wire.proofs.Formed.{judged}
-use Rattle.kd_wire.proofs.ItemLaws.{option_cases}
-use Rattle.kd_desk.specs.Plans.{Plan}
+use Rattle.kd_commands.specs.Plans.{Plan}
 use Rattle.kd_core.specs.declared.event.Answer.TheVariants as answer
-use Rattle.kd_world.specs.World.{World, Event, take, visit, leave, publishes, receives, reads, frees, all_legal, holds_desk, is_caller, is_for_desk, legal, runs, step}
-use Rattle.kd_core.specs.Running.{is_run, may, next_publish, next_seat}
-use Rattle.kd_replay.specs.Turns.{Turn, IsReady, at_desk, by_desk, left, mode_of, opening, part_count, pending_count, published, publishings, refused, slice_number, turn, visited, visits}
-use Rattle.kd_replay.specs.Transcript.{Answered, IsReached, IsTurn}
+use Rattle.kd_world.specs.State.{World}
+use Rattle.kd_world.specs.Holding.{holds_desk}
+use Rattle.kd_world.specs.Legal.{Event, take, visit, leave, publishes, receives, reads, frees, is_caller, is_for_desk, legal}
+use Rattle.kd_world.specs.Step.{step}
+use Rattle.kd_world.specs.Runs.{all_legal, world_after}
+use Rattle.kd_world.specs.Whole.{Whole, left_and_published, next_publish, next_seat, part_count, pending_count, published, publishings, visits, visits_run, whole}
+use Rattle.kd_core.specs.Running.{is_run, may}
+use Rattle.kd_replay.specs.Turns.{IsReady, Turn, at_desk, mode_of, refused, replay_world, replied, slice_number, turn}
+use Rattle.kd_replay.specs.Transcript.{Answered, IsLedTo, IsTurn}
 use Rattle.kd_replay.proofs.Holding.{callers_stay, free_behind_leave, opens_ready, ready_behind_free, ready_behind_publish, ready_behind_read, ready_behind_receive}
 use Rattle.kd_replay.proofs.Visits.{remaining, fuel_at_first, visited_one, leave_may}
 use Rattle.kd_replay.proofs.Publishes.{publish_may}
 use Rattle.kd_replay.proofs.Takes.{answer_of, plan_of, taken, take_may, turned_away}
 use Rattle.kd_replay.proofs.Modes.{free_may, read_may, receive_may}
 
-legal_append : (w : World) (es fs : List Event) → all_legal w es ≡ true → all_legal (runs w es) fs ≡ true → all_legal w (es ++ fs) ≡ true
-unfolding all_legal runs
+legal_append : (w : World) (es fs : List Event) → all_legal w es ≡ true → all_legal (world_after w es) fs ≡ true → all_legal w (es ++ fs) ≡ true
+unfolding all_legal world_after
 legal_append w [] fs a b = b
 legal_append w (e ∷ es) fs a b =
-    let h = both (legal w e) (all_legal (step w e) es) a in
+    let h = both_true (legal w e) (all_legal (step w e) es) a in
     let more : all_legal (step w e) (es ++ fs) ≡ true = legal_append (step w e) es fs h.1 b in
     rw (h.0, more) refl
 
-runs_append : (w : World) (es fs : List Event) → runs w (es ++ fs) ≡ runs (runs w es) fs
-unfolding runs
+runs_append : (w : World) (es fs : List Event) → world_after w (es ++ fs) ≡ world_after (world_after w es) fs
+unfolding world_after
 runs_append w [] fs = refl
 runs_append w (e ∷ es) fs = runs_append (step w e) es fs
 
-here : (w : World) → IsReached w w
-unfolding all_legal runs
+here : (w : World) → IsLedTo w w
+unfolding all_legal world_after
 here w = ([], refl, refl)
 
-by_one : (w : World) (e : Event) → may w e ≡ true → IsReached w (step w e)
-unfolding all_legal runs may
-by_one w e h = let l : legal w e ≡ true = (both (legal w e) (is_run w e) h).0 in (e ∷ [], rw l refl, refl)
+by_one : (w : World) (e : Event) → may w e ≡ true → IsLedTo w (step w e)
+unfolding all_legal world_after may
+by_one w e h = let l : legal w e ≡ true = (both_true (legal w e) (is_run w e) h).0 in (e ∷ [], rw l refl, refl)
 
-join : (w mid end : World) → IsReached w mid → IsReached mid end → IsReached w end
+join : (w mid end : World) → IsLedTo w mid → IsLedTo mid end → IsLedTo w end
 join w mid end (es, l, is) (fs, m, are) =
-    (es ++ fs, legal_append w es fs l (subst (λ (x : World). all_legal x fs ≡ true) is m), are ∙ ap (λ (x : World). runs x fs) is ∙ sym (runs_append w es fs))
+    (es ++ fs, legal_append w es fs l (subst (λ (x : World). all_legal x fs ≡ true) is m), are ∙ ap (λ (x : World). world_after x fs) is ∙ sym (runs_append w es fs))
 
 -- a world that legal events reach, in which nobody holds the desk
 pub record IsGood (w end : World) : Type 0 where
-  pub path : IsReached w end
+  pub path : IsLedTo w end
   pub ready : IsReady end
 
 -- behind all visits
 record IsSeen (w end : World) (n : ℕ) : Type 0 where
-  path : IsReached w end
+  path : IsLedTo w end
   none : next_seat end ≡ None
   holds : holds_desk end n ≡ true
   callers : length end.callers ≡ length w.callers
@@ -97,10 +101,10 @@ told (suc m) n w c r =
           subst (λ (x : World). IsGood w x) (sym opened) (record { path = join w mid (publishings m n mid) (by_one w e (publish_may w n some.0.0 some.0.1 c r some.1)) rest.path; ready = rest.ready })
     ]
 
-behind : (w : World) (n : ℕ) → is_caller n ≡ true → holds_desk w n ≡ true → length w.callers ≡ 64 → IsGood w (left (visited w n) n).next
+behind : (w : World) (n : ℕ) → is_caller n ≡ true → holds_desk w n ≡ true → length w.callers ≡ 64 → IsGood w (left_and_published (visits_run w n) n).next
 behind w n c h len =
     let v = seen (part_count w) n w c h (fuel_at_first w w.holder refl) in
-    let mid : World = visited w n in
+    let mid : World = visits_run w n in
     let gone : World = step mid (leave n) in
     let p = told (pending_count gone n) n gone c (free_behind_leave mid n (v.callers ∙ len)) in
     record { path = join w mid (published gone n) v.path (join mid gone (published gone n) (by_one mid (leave n) (leave_may mid n v.none v.holds c)) p.path); ready = p.ready }
@@ -112,7 +116,7 @@ record MayTake (w : World) (n : ℕ) (x : Command) : Type 0 where
   desk : is_for_desk x ≡ true
   form : is_well_formed x ≡ true
 
-desk_by : (w : World) (n : ℕ) (x : Command) (r : Result Plan Refusal) → r ≡ plan_of w n x → MayTake w n x → is_run w (take n x) ≡ true → IsGood w (by_desk w n x).next
+desk_by : (w : World) (n : ℕ) (x : Command) (r : Result Plan Refusal) → r ≡ plan_of w n x → MayTake w n x → is_run w (take n x) ≡ true → IsGood w (whole w n x).next
 desk_by w n x (Err why) is m run =
     let away = turned_away w n x why m.ready (answer_of w n x (Err why) is) in
     subst (λ (v : World). IsGood w v) (sym away.next) (record { path = by_one w (take n x) (take_may w n x m.caller m.ready m.desk m.form run); ready = away.ready })
@@ -120,9 +124,9 @@ desk_by w n x (Ok p) is m run =
     let inside = taken w n x (λ why e. let never : answer.Taken ≡ answer.Refused why = sym (answer_of w n x (Ok p) is) ∙ e in absurd cc) in
     let held : World = step w (take n x) in
     let g = behind held n m.caller inside.holds (callers_stay w (take n x) ∙ m.ready.callers) in
-    subst (λ (t : Turn). IsGood w t.next) (sym inside.turn) (record { path = join w held (left (visited held n) n).next (by_one w (take n x) (take_may w n x m.caller m.ready m.desk m.form run)) g.path; ready = g.ready })
+    subst (λ (t : Whole). IsGood w t.next) (sym inside.turn) (record { path = join w held (left_and_published (visits_run held n) n).next (by_one w (take n x) (take_may w n x m.caller m.ready m.desk m.form run)) g.path; ready = g.ready })
 
-desk_if : (w : World) (n : ℕ) (x : Command) (b : Bool) → b ≡ is_run w (take n x) → MayTake w n x → IsGood w (cond b (by_desk w n x) (refused w (Unsupported (number_of (opcode_in x))))).next
+desk_if : (w : World) (n : ℕ) (x : Command) (b : Bool) → b ≡ is_run w (take n x) → MayTake w n x → IsGood w (cond b (replied (whole w n x)) (refused w (Unsupported (opcode_number (opcode_in x))))).next
 desk_if w n x true is m = desk_by w n x (plan_of w n x) refl m (sym is)
 desk_if w n x false is m = record { path = here w; ready = m.ready }
 
@@ -130,7 +134,7 @@ at_the_desk : (w : World) (n : ℕ) (x : Command) → MayTake w n x → IsGood w
 unfolding at_desk
 at_the_desk w n x m = desk_if w n x (is_run w (take n x)) refl m
 
-turn_good : (w : World) (n : ℕ) (x : Command) → is_caller n ≡ true → IsReady w → runs_in Replay (opcode_in x) ≡ true → is_well_formed x ≡ true → IsGood w (turn w n x).next
+turn_good : (w : World) (n : ℕ) (x : Command) → is_caller n ≡ true → IsReady w → takes_opcode Replay (opcode_in x) ≡ true → is_well_formed x ≡ true → IsGood w (turn w n x).next
 unfolding turn
 turn_good w n (cmd.Recv flags limit) c r run f = record { path = by_one w (receives n (mode_of flags limit)) (receive_may w n (cmd.Recv flags limit) flags limit limit c r f refl); ready = ready_behind_receive w n (mode_of flags limit) r }
 turn_good w n (cmd.Read sealed number) c r run f = record { path = by_one w (reads n (slice_number number) sealed) (read_may w n (slice_number number) sealed c r); ready = ready_behind_read w n (slice_number number) sealed r }
@@ -156,11 +160,11 @@ frame_good : (w : World) (frame : List ℕ) (t : Turn) → IsReady w → IsTurn 
 frame_good w frame t r (inl (why, e, is)) = subst (λ (u : Turn). IsGood w u.next) (sym is) (record { path = here w; ready = r })
 frame_good w frame t r (inr (caller, command, read, is)) = subst (λ (u : Turn). IsGood w u.next) (sym is) (turn_good w caller command read.admitted r read.run (judged command read.form))
 
-frames_good : (w : World) (fs : List (List ℕ)) (written : List ℕ) (end : World) → IsReady w → Answered w fs written end → IsReached w end
-frames_good w [] written end r (none, is) = subst (λ (v : World). IsReached w v) (sym is) (here w)
+frames_good : (w : World) (fs : List (List ℕ)) (written : List ℕ) (end : World) → IsReady w → Answered w fs written end → IsLedTo w end
+frames_good w [] written end r (none, is) = subst (λ (v : World). IsLedTo w v) (sym is) (here w)
 frames_good w (f ∷ fs) written end r (t, more, turned, is, rest) =
     let g = frame_good w f t r turned in
     join w t.next end g.path (frames_good t.next fs more end g.ready rest)
 
-pub frames_reach : (fs : List (List ℕ)) (written : List ℕ) (end : World) → Answered opening fs written end → IsReached opening end
-frames_reach fs written end h = frames_good opening fs written end opens_ready h
+pub frames_reach : (fs : List (List ℕ)) (written : List ℕ) (end : World) → Answered replay_world fs written end → IsLedTo replay_world end
+frames_reach fs written end h = frames_good replay_world fs written end opens_ready h

@@ -3,6 +3,7 @@ pub mod Lines
 pub mod Holding
 pub mod Visits
 pub mod Publishes
+pub mod Replies
 pub mod Takes
 pub mod Modes
 pub mod Written

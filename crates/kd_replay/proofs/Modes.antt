@@ -5,6 +5,7 @@ use Rattle.std.specs.Int.{w64, cast_unsigned}
 use Rattle.std.proofs.lemmas.Bool.{ltb-false}
 use Rattle.kd_types.specs.declared.flags.RecvFlags.{RecvFlags}
 use Rattle.kd_types.specs.Flags.{has_bits}
+use Rattle.kd_model.proofs.Truth.{both_true, none_is}
 use Rattle.kd_wire.specs.declared.opcode.Opcode.TheVariants as opcodes
 use Rattle.kd_wire.specs.declared.command.Command.{Command}
 use Rattle.kd_wire.specs.declared.command.Command.TheVariants as cmd
@@ -13,8 +14,9 @@ use Rattle.kd_wire.specs.Kinds.{kinds_of}
 use Rattle.kd_wire.specs.Reading.{stand}
 use Rattle.kd_wire.specs.Refusals.{flaw_of}
 use Rattle.kd_wire.specs.WellFormed.{is_well_formed}
-use Rattle.kd_wire.proofs.Parts.{both, flawless}
-use Rattle.kd_world.specs.World.{World, receives, reads, frees, is_caller, legal}
+use Rattle.kd_wire.proofs.Parts.{flawless}
+use Rattle.kd_world.specs.State.{World}
+use Rattle.kd_world.specs.Legal.{receives, reads, frees, is_caller, legal}
 use Rattle.kd_core.specs.Running.{may}
 use Rattle.kd_replay.specs.Turns.{IsReady, mode_of}
 use Rattle.kd_replay.proofs.Publishes.{nobody}
@@ -31,15 +33,11 @@ not_both (suc (suc (suc (suc (suc (suc zero)))))) le e = refl
 not_both (suc (suc (suc (suc (suc (suc (suc zero))))))) le e = absurd cc
 not_both (suc (suc (suc (suc (suc (suc (suc (suc n)))))))) le e = absurd (let bad : ⊥ = omega (arith, le) in bad)
 
-is_nothing : {X : Type 0} (o : Option X) → is_none o ≡ true → o ≡ None
-is_nothing None e = refl
-is_nothing (Some x) e = absurd cc
-
 one_way : (flags : RecvFlags) (limit : ℤ) → is_well_formed (cmd.Recv flags limit) ≡ true → (has_bits flags.0 1 && has_bits flags.0 2) ≡ false
 one_way flags limit e =
     let words : List ℕ = cast_unsigned w64 limit ∷ [] in
     let front : Bool = nat_le (frame_length (cmd.Recv flags limit)) 131072 && stand (kinds_of opcodes.Recv flags.0) [] [] in
-    let none = is_nothing (flaw_of opcodes.Recv flags.0 words []) (both front (is_none (flaw_of opcodes.Recv flags.0 words [])) e).1 in
+    let none = none_is (flaw_of opcodes.Recv flags.0 words []) (both_true front (is_none (flaw_of opcodes.Recv flags.0 words [])) e).1 in
     let f = flawless opcodes.Recv flags.0 words [] none in
     not_both flags.0 (ltb-false 7 flags.0 f.known) f.within
 

@@ -1,35 +1,33 @@
 -- What a caller has yet to publish.
 use Rattle.std.proofs.Common.{◌≡◌, ℕ, zero, suc, ◌+◌, ◌-◌, ◌≤◌, Bool, true, false, eq-eqb, leb, List, [], ◌∷◌, length, get_or, Option, Some, None, refl, sym, ap, ◌∙◌, arith}
-use Rattle.std.specs.Prelude.{option_map, is_some, unwrap_or, ◌==◌}
+use Rattle.std.specs.Prelude.{is_some, ◌==◌}
 use Rattle.std.proofs.lemmas.List.{get_or-set_same}
 use Rattle.std.proofs.lemmas.Bool.{leb-true}
 use Rattle.kd_model.specs.Words.{first}
-use Rattle.kd_wire.proofs.Parts.{both}
-use Rattle.kd_core.specs.Lists.{first_of}
-use Rattle.kd_world.specs.Pendings.{Pending}
-use Rattle.kd_world.specs.World.{World, Caller, publishes, callers_after, caller_at, has_published, holds_desk, is_caller, is_pending_at, legal, step, stranger, with_caller, without_first}
-use Rattle.kd_core.specs.Running.{may, next_publish}
-use Rattle.kd_replay.specs.Turns.{publishings, pending_count, published, IsReady}
+use Rattle.kd_model.proofs.Truth.{both_true, same_some}
+use Rattle.kd_world.specs.State.{Pending, World, Caller, caller_at, stranger}
+use Rattle.kd_world.specs.Holding.{holds_desk}
+use Rattle.kd_world.specs.Own.{is_pending_at}
+use Rattle.kd_world.specs.Legal.{publishes, is_caller, legal}
+use Rattle.kd_world.specs.Callers.{callers_after, has_published, with_caller, without_first}
+use Rattle.kd_world.specs.Step.{step}
+use Rattle.kd_world.specs.Whole.{next_publish, pending_count, publish_place, published, publishings}
+use Rattle.kd_core.specs.Running.{may}
+use Rattle.kd_replay.specs.Turns.{IsReady}
 use Rattle.kd_replay.proofs.Holding.{ready_behind_publish}
-
-abbrev next_of : List Pending → Option (ℕ × ℕ)
-next_of ps = option_map (λ (p : Pending). (p.seat, p.number)) (first_of ps)
 
 -- the oldest pending is the one of its seat and number
 pub record Oldest (ps : List Pending) (s k : ℕ) : Type 0 where
   pub there : is_some (first (is_pending_at s k) ps) ≡ true
   pub fewer : length (without_first (is_pending_at s k) ps) + 1 ≡ length ps
 
-same_pair : (x y : ℕ × ℕ) → Some x ≡ Some y → x ≡ y
-same_pair x y e = ap (λ (o : Option (ℕ × ℕ)). unwrap_or o x) e
-
 one_longer : (p : Pending) (ps : List Pending) → length ps + 1 ≡ length (p ∷ ps)
 one_longer p ps = omega arith
 
-oldest : (ps : List Pending) (s k : ℕ) → next_of ps ≡ Some (s, k) → Oldest ps s k
+oldest : (ps : List Pending) (s k : ℕ) → publish_place ps ≡ Some (s, k) → Oldest ps s k
 oldest [] s k e = absurd cc
 oldest (p ∷ ps) s k e =
-    let place : (p.seat, p.number) ≡ (s, k) = same_pair (p.seat, p.number) (s, k) e in
+    let place : (p.seat, p.number) ≡ (s, k) = same_some (p.seat, p.number) (s, k) e in
     let seat : p.seat ≡ s = ap (λ (x : ℕ × ℕ). x.0) place in
     let number : p.number ≡ k = ap (λ (x : ℕ × ℕ). x.1) place in
     let here : (p.seat == s) ≡ true = eq-eqb p.seat s seat in
@@ -44,7 +42,7 @@ at_least zero e = absurd cc
 at_least (suc n) e = omega arith
 
 at_most : (n : ℕ) → is_caller n ≡ true → n ≤ 64
-at_most n e = leb-true n 64 (both (leb 1 n) (leb n 64) e).1
+at_most n e = leb-true n 64 (both_true (leb 1 n) (leb n 64) e).1
 
 pub nobody : (w : World) (n : ℕ) → w.holder ≡ None → holds_desk w n ≡ false
 nobody w n e = rw e refl

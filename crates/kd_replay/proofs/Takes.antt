@@ -5,11 +5,19 @@ use Rattle.kd_types.specs.declared.refusal.Refusal.{Refusal}
 use Rattle.kd_wire.specs.declared.command.Command.{Command}
 use Rattle.kd_wire.specs.declared.reply.Reply.TheVariants as reply
 use Rattle.kd_wire.specs.WellFormed.{is_well_formed}
-use Rattle.kd_desk.specs.Plans.{Plan}
+use Rattle.kd_commands.specs.Plans.{Plan}
 use Rattle.kd_core.specs.declared.event.Answer.TheVariants as answer
-use Rattle.kd_world.specs.World.{World, Holder, take, caller_at, planned, taken_answer, holder_by, holder_after, holds_desk, is_caller, is_for_desk, legal, says, step}
+use Rattle.kd_world.specs.State.{World, Holder, caller_at}
+use Rattle.kd_world.specs.Planner.{planned}
+use Rattle.kd_world.specs.Holding.{holds_desk}
+use Rattle.kd_world.specs.Legal.{take, is_caller, is_for_desk, legal}
+use Rattle.kd_world.specs.Step.{holder_by, holder_after, step}
+use Rattle.kd_world.specs.Answers.{taken_answer, says}
+use Rattle.kd_world.specs.Whole.{Whole, alone, left_and_published, visits_run, whole}
 use Rattle.kd_core.specs.Running.{may, said, is_run}
-use Rattle.kd_replay.specs.Turns.{Turn, IsReady, by_desk, alone, left, reply_of, visited}
+use Rattle.kd_replay.specs.Turns.{IsReady, reply_of}
+use Rattle.kd_replay.specs.Answering.{reply_with}
+use Rattle.kd_replay.proofs.Replies.{take_replied}
 use Rattle.kd_replay.proofs.Holding.{callers_stay}
 
 abbrev pub plan_of : World → ℕ → Command → Result Plan Refusal
@@ -17,14 +25,14 @@ plan_of w n x = planned w.desk (caller_at w n).who x
 
 -- the take was refused
 pub record IsTurnedAway (w : World) (n : ℕ) (x : Command) (why : Refusal) : Type 0 where
-  pub next : (by_desk w n x).next ≡ step w (take n x)
-  pub reply : (by_desk w n x).reply ≡ reply.Refused why
+  pub next : (whole w n x).next ≡ step w (take n x)
+  pub reply : reply_of (whole w n x).answer ≡ reply.Refused why
   pub ready : IsReady (step w (take n x))
 
 -- the caller has the desk
 pub record IsIn (w : World) (n : ℕ) (x : Command) : Type 0 where
   pub holds : holds_desk (step w (take n x)) n ≡ true
-  pub turn : by_desk w n x ≡ left (visited (step w (take n x)) n) n
+  pub turn : whole w n x ≡ left_and_published (visits_run (step w (take n x)) n) n
 
 pub answer_of : (w : World) (n : ℕ) (x : Command) (r : Result Plan Refusal) → r ≡ plan_of w n x → said (take n x) (says w (take n x)) ≡ said (take n x) (taken_answer r)
 unfolding says
@@ -35,10 +43,10 @@ unfolding holder_after
 holder_of w n x r e = rw e refl
 
 turned_away_by : (w : World) (n : ℕ) (x : Command) (why : Refusal) → IsReady w → (step w (take n x)).holder ≡ None → said (take n x) (says w (take n x)) ≡ answer.Refused why → IsTurnedAway w n x why
-unfolding by_desk reply_of
+unfolding whole reply_with
 turned_away_by w n x why r none e =
-    let turn : by_desk w n x ≡ alone w (take n x) = ap (λ (o : Option Holder). elim o [ None ↦ alone w (take n x) | Some h ↦ left (visited (step w (take n x)) n) n ]) none in
-    record { next = ap (λ (t : Turn). t.next) turn; reply = ap (λ (t : Turn). t.reply) turn ∙ ap reply_of e; ready = record { free = none; callers = callers_stay w (take n x) ∙ r.callers } }
+    let turn : whole w n x ≡ alone w (take n x) = ap (λ (o : Option Holder). elim o [ None ↦ alone w (take n x) | Some h ↦ left_and_published (visits_run (step w (take n x)) n) n ]) none in
+    record { next = ap (λ (t : Whole). t.next) turn; reply = ap (λ (t : Whole). reply_of t.answer) turn ∙ sym (take_replied n x (says w (take n x))) ∙ ap reply_with e; ready = record { free = none; callers = callers_stay w (take n x) ∙ r.callers } }
 
 turned_by : (w : World) (n : ℕ) (x : Command) (why : Refusal) (r : Result Plan Refusal) → r ≡ plan_of w n x → IsReady w → said (take n x) (says w (take n x)) ≡ answer.Refused why → IsTurnedAway w n x why
 turned_by w n x why (Err f) is r e = turned_away_by w n x why r (holder_of w n x (Err f) is) e
@@ -48,13 +56,13 @@ pub turned_away : (w : World) (n : ℕ) (x : Command) (why : Refusal) → IsRead
 turned_away w n x why r e = turned_by w n x why (plan_of w n x) refl r e
 
 in_by : (w : World) (n : ℕ) (x : Command) (r : Result Plan Refusal) → r ≡ plan_of w n x → ((why : Refusal) → said (take n x) (says w (take n x)) ≡ answer.Refused why → ⊥) → IsIn w n x
-unfolding by_desk
+unfolding whole
 in_by w n x (Err f) is never = absurd (never f (answer_of w n x (Err f) is))
 in_by w n x (Ok p) is never =
     let h = holder_of w n x (Ok p) is in
     record {
       holds = ap (λ (o : Option Holder). elim o [ None ↦ false | Some h ↦ h.caller == n ]) h ∙ eq-eqb n n refl;
-      turn = ap (λ (o : Option Holder). elim o [ None ↦ alone w (take n x) | Some h ↦ left (visited (step w (take n x)) n) n ]) h;
+      turn = ap (λ (o : Option Holder). elim o [ None ↦ alone w (take n x) | Some h ↦ left_and_published (visits_run (step w (take n x)) n) n ]) h;
     }
 
 pub taken : (w : World) (n : ℕ) (x : Command) → ((why : Refusal) → said (take n x) (says w (take n x)) ≡ answer.Refused why → ⊥) → IsIn w n x

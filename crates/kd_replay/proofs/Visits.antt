@@ -2,24 +2,24 @@
 use Rattle.std.proofs.Common.{◌≡◌, ℕ, zero, suc, ◌+◌, ◌-◌, ◌≤◌, ◌<◌, true, List, [], ◌∷◌, ◌++◌, length, length-append, Option, Some, None, refl, sym, ap, ◌∙◌, eq-eqb, arith}
 use Rattle.std.specs.Prelude.{option_map}
 use Rattle.kd_types.specs.declared.refusal.Refusal.{Refusal}
-use Rattle.kd_pool.specs.State.{Answer, Hold, Image}
-use Rattle.kd_desk.specs.State.{Desk}
-use Rattle.kd_desk.specs.Send.{Part}
-use Rattle.kd_desk.specs.Step.{first_ends, images_in, next_part}
-use Rattle.kd_world.specs.World.{World, Holder, Caller, visit, leave, parts_held, next_visit, holder_after, desk_after, pool_answer, holds_desk, is_caller, is_part_at, legal, step}
-use Rattle.kd_core.specs.Running.{may, next_seat}
-use Rattle.kd_replay.specs.Turns.{visits, part_count, visited}
+use Rattle.kd_acts.specs.State.{Answer, Hold, Image}
+use Rattle.kd_commands.specs.State.{Desk}
+use Rattle.kd_commands.specs.Plans.{Part}
+use Rattle.kd_commands.specs.Visits.{first_ends, images_in, next_part}
+use Rattle.kd_world.specs.State.{World, Holder, Caller}
+use Rattle.kd_world.specs.Holding.{parts_held, next_visit, holds_desk}
+use Rattle.kd_world.specs.Legal.{visit, leave, is_caller, is_part_at, legal}
+use Rattle.kd_world.specs.Pools.{pool_answer}
+use Rattle.kd_world.specs.Step.{holder_after, desk_after, step}
+use Rattle.kd_world.specs.Whole.{next_seat, part_count, visits, visits_run}
+use Rattle.kd_core.specs.Running.{may}
+use Rattle.kd_model.proofs.Truth.{no_some}
+use Rattle.kd_world.proofs.Tied.{of}
 use Rattle.kd_replay.proofs.Holding.{callers_stay}
-
-abbrev of : Desk → Option Holder → List Hold → List Caller → World
-of d o pools callers = record { desk = d; holder = o; pools = pools; callers = callers }
 
 -- how many visits are left at most
 abbrev pub remaining : World → ℕ
 remaining w = elim w.holder [ None ↦ 0 | Some h ↦ length (parts_held w h) - length h.outs ]
-
-no_some : {X : Type 0} {x : X} → None ≡ Some x → ⊥
-no_some e = cc
 
 next_inside : (is : List Image) (ps : List Part) (outs : List Answer) (p : Part) → next_part is ps outs ≡ Some p → length outs < length ps
 unfolding next_part
@@ -70,7 +70,7 @@ visited_one w n s e h = one_visit w.desk w.holder w.pools w.callers n s e h
 -- so far: what is left of all visits
 pub record Visiting (start now : World) (n : ℕ) : Type 0 where
   pub fuel : ℕ
-  pub same : visits fuel n now ≡ visited start n
+  pub same : visits fuel n now ≡ visits_run start n
   pub enough : remaining now ≤ fuel
   pub holds : holds_desk now n ≡ true
   pub callers : length now.callers ≡ length start.callers
@@ -82,7 +82,7 @@ fuel_at_first w (Some h) e = rw (← e) (omega arith)
 pub visiting_first : (w : World) (n : ℕ) → holds_desk w n ≡ true → Visiting w w n
 visiting_first w n h = record { fuel = part_count w; same = refl; enough = fuel_at_first w w.holder refl; holds = h; callers = refl }
 
-go_on : (start now : World) (n s k : ℕ) → visits k n now ≡ visited start n → remaining now ≤ k → length now.callers ≡ length start.callers → next_seat now ≡ Some s → IsVisited now n s → Visiting start (step now (visit n s)) n
+go_on : (start now : World) (n s k : ℕ) → visits k n now ≡ visits_run start n → remaining now ≤ k → length now.callers ≡ length start.callers → next_seat now ≡ Some s → IsVisited now n s → Visiting start (step now (visit n s)) n
 unfolding visits
 go_on start now n s zero same enough callers next v = absurd (let bad : ⊥ = omega (arith, v.fewer, enough) in bad)
 go_on start now n s (suc k) same enough callers next v =
@@ -97,7 +97,7 @@ unfolding visits
 none_left zero n w e = refl
 none_left (suc k) n w e = ap (λ (o : Option ℕ). elim o [ None ↦ w | Some t ↦ visits k n (step w (visit n t)) ]) e
 
-pub visiting_ends : (start now : World) (n : ℕ) → Visiting start now n → next_seat now ≡ None → now ≡ visited start n
+pub visiting_ends : (start now : World) (n : ℕ) → Visiting start now n → next_seat now ≡ None → now ≡ visits_run start n
 visiting_ends start now n v e = sym (none_left v.fuel n now e) ∙ v.same
 
 no_part : (w : World) (h : Holder) (o : Option Part) → o ≡ next_visit w h → option_map (λ (p : Part). p.seat) o ≡ None → next_visit w h ≡ None

@@ -8,8 +8,8 @@ use Rattle.std.specs.Prelude.{◌==◌}
 use Rattle.std.proofs.lemmas.Grind.{flat_map-append}
 use Rattle.std.proofs.Math.Seq.{take-append-add}
 use Rattle.kd_outside.proofs.Known.{appends_more, appends_nothing}
-use Rattle.kd_world.specs.World.{World}
-use Rattle.kd_replay.specs.Turns.{Turn, opening}
+use Rattle.kd_world.specs.State.{World}
+use Rattle.kd_replay.specs.Turns.{Turn, replay_world}
 use Rattle.kd_replay.specs.Frames.{IsFrame, IsCut, joined}
 use Rattle.kd_replay.specs.Transcript.{IsTurn, reply_bytes, Answered, WritesFront}
 
@@ -43,14 +43,14 @@ pub record Stands (bytes rest : List ℕ) (at : ℕ) (held_before held_after : O
   pub written : List ℕ
   pub cut : IsCut bytes frames rest
   pub place : at ≡ length (joined frames)
-  pub answered : Answered opening frames written now
+  pub answered : Answered replay_world frames written now
   pub held : Appends held_before held_after written
 
 pub nothing_left : (rest : List ℕ) → (length rest == 0) ≡ true → rest ≡ []
 nothing_left rest e = nil_from_length rest (eqb-true (length rest) 0 e)
 
 -- at first nothing is cut, and nothing written
-pub stands_first : (bytes : List ℕ) (a : Option (List ℕ)) → Stands bytes bytes 0 a a opening
+pub stands_first : (bytes : List ℕ) (a : Option (List ℕ)) → Stands bytes bytes 0 a a replay_world
 stands_first bytes a = record { frames = []; written = []; cut = record { parts = refl; each = tt }; place = refl; answered = (refl, refl); held = appends_nothing a }
 
 pub all_written : (bytes rest : List ℕ) (at : ℕ) (a b : Option (List ℕ)) (now : World) → Stands bytes rest at a b now → WritesFront bytes a b
@@ -70,7 +70,7 @@ some_written bytes rest at n k a b c now t s frame turn more =
       s.written ++ last,
       length s.written + k,
       cut_more bytes s.frames rest n s.cut frame,
-      (t.next, answered_more opening s.frames s.written now f t s.answered turn),
+      (t.next, answered_more replay_world s.frames s.written now f t s.answered turn),
       rw front (appends_more a b c s.written (take k last) s.held more),
     )
 
@@ -81,6 +81,6 @@ one_more bytes rest at n a b c now t s frame len turn more = record {
   written = s.written ++ reply_bytes (take n rest) t.reply;
   cut = cut_more bytes s.frames rest n s.cut frame;
   place = omega (arith, s.place, len, length-joined_more s.frames (take n rest));
-  answered = answered_more opening s.frames s.written now (take n rest) t s.answered turn;
+  answered = answered_more replay_world s.frames s.written now (take n rest) t s.answered turn;
   held = appends_more a b c s.written (reply_bytes (take n rest) t.reply) s.held more;
 }

@@ -1,3 +1,10 @@
-pub mod Turns
+-- In reading order. A reader has to believe those marked *.
+
+-- * frames, how bytes fall into them, and the command of each
 pub mod Frames
+-- * what a command of a frame comes to
+pub mod Turns
+-- * what a replay writes, and how it ends
 pub mod Transcript
+-- what the code's answers are replied as
+pub mod Answering

@@ -10,8 +10,10 @@ use Rattle.kd_wire.specs.declared.reply.Reply.{Reply}
 use Rattle.kd_wire.specs.Frames.{command_word, caller_word}
 use Rattle.kd_wire.specs.Refusals.{refusal_of}
 use Rattle.kd_wire.specs.Replies.{reply_frame}
-use Rattle.kd_world.specs.World.{World, Event, all_legal, runs}
-use Rattle.kd_replay.specs.Turns.{Turn, opening, refused, turn}
+use Rattle.kd_world.specs.State.{World}
+use Rattle.kd_world.specs.Legal.{Event}
+use Rattle.kd_world.specs.Runs.{all_legal, world_after}
+use Rattle.kd_replay.specs.Turns.{Turn, replay_world, refused, turn}
 use Rattle.kd_replay.specs.Frames.{HasNoFrame, IsCut, IsRead, joined}
 
 -- a frame that breaks the format gets its refusal
@@ -19,12 +21,13 @@ abbrev pub IsRefused : World → List ℕ → Turn → Type 0
 IsRefused w frame t = (why : Refusal) × (refusal_of Replay frame ≡ Some why) × (t ≡ refused w why)
 
 -- any other is run as the command that it spells
-abbrev pub IsRun : World → List ℕ → Turn → Type 0
-IsRun w frame t = (caller : ℕ) × (command : Command) × IsRead frame caller command × (t ≡ turn w caller command)
+abbrev pub IsCommandRun : World → List ℕ → Turn → Type 0
+IsCommandRun w frame t =
+    (caller : ℕ) × (command : Command) × IsRead frame caller command × (t ≡ turn w caller command)
 
 -- what a frame comes to
 abbrev pub IsTurn : World → List ℕ → Turn → Type 0
-IsTurn w frame t = IsRefused w frame t ⊎ IsRun w frame t
+IsTurn w frame t = IsRefused w frame t ⊎ IsCommandRun w frame t
 
 -- the bytes of a reply: the frame's command and caller stand in it
 abbrev pub reply_bytes : List ℕ → Reply → List ℕ
@@ -33,30 +36,36 @@ reply_bytes frame r = reply_frame (command_word frame) (caller_word frame) r
 -- frame after frame, from one world to another: the replies, one after the other
 abbrev pub Answered : World → List (List ℕ) → List ℕ → World → Type 0
 Answered w [] written end = (written ≡ []) × (end ≡ w)
-Answered w (f ∷ fs) written end = (t : Turn) × (more : List ℕ) × IsTurn w f t × (written ≡ reply_bytes f t.reply ++ more) × Answered t.next fs more end
+Answered w (f ∷ fs) written end =
+    (t : Turn) × (more : List ℕ) × IsTurn w f t × (written ≡ reply_bytes f t.reply ++ more)
+    × Answered t.next fs more end
 
 -- the replies to frames from the opening of the bus
 abbrev pub IsTranscript : List (List ℕ) → List ℕ → Type 0
-IsTranscript frames written = (end : World) × Answered opening frames written end
+IsTranscript frames written = (end : World) × Answered replay_world frames written end
 
 -- some legal events lead from one world to another
-abbrev pub IsReached : World → World → Type 0
-IsReached w end = (es : List Event) × (all_legal w es ≡ true) × (end ≡ runs w es)
+abbrev pub IsLedTo : World → World → Type 0
+IsLedTo w end = (es : List Event) × (all_legal w es ≡ true) × (end ≡ world_after w es)
 
 -- a front of the replies to the first frames was written
 abbrev pub WritesFront : List ℕ → Option (List ℕ) → Option (List ℕ) → Type 0
 WritesFront bytes held_before held_after =
-    (frames : List (List ℕ)) × (rest written : List ℕ) × (n : ℕ) × IsCut bytes frames rest × IsTranscript frames written × Appends held_before held_after (take n written)
+    (frames : List (List ℕ)) × (rest written : List ℕ) × (n : ℕ) × IsCut bytes frames rest
+    × IsTranscript frames written × Appends held_before held_after (take n written)
 
 -- the replies to all these frames were written
 abbrev pub WritesAll : List (List ℕ) → Option (List ℕ) → Option (List ℕ) → Type 0
-WritesAll frames held_before held_after = (written : List ℕ) × IsTranscript frames written × Appends held_before held_after written
+WritesAll frames held_before held_after =
+    (written : List ℕ) × IsTranscript frames written × Appends held_before held_after written
 
 -- what answering the frames of these bytes came to
-abbrev pub Answers : List ℕ → Option (List ℕ) → Option (List ℕ) → Status → Type 0
-Answers bytes held_before held_after Done = (frames : List (List ℕ)) × IsCut bytes frames [] × WritesAll frames held_before held_after
-Answers bytes held_before held_after (BadFrame at) =
-    (frames : List (List ℕ)) × (rest : List ℕ) × IsCut bytes frames rest × (rest ≢ []) × HasNoFrame rest × (at ≡ length (joined frames)) × WritesAll frames held_before held_after
-Answers bytes held_before held_after WriteFault = WritesFront bytes held_before held_after
-Answers bytes held_before held_after OutOfMemory = WritesFront bytes held_before held_after
-Answers bytes held_before held_after _ = ⊥
+abbrev pub ReplayResult : List ℕ → Option (List ℕ) → Option (List ℕ) → Status → Type 0
+ReplayResult bytes held_before held_after Done =
+    (frames : List (List ℕ)) × IsCut bytes frames [] × WritesAll frames held_before held_after
+ReplayResult bytes held_before held_after (BadFrame at) =
+    (frames : List (List ℕ)) × (rest : List ℕ) × IsCut bytes frames rest × (rest ≢ [])
+    × HasNoFrame rest × (at ≡ length (joined frames)) × WritesAll frames held_before held_after
+ReplayResult bytes held_before held_after WriteFault = WritesFront bytes held_before held_after
+ReplayResult bytes held_before held_after OutOfMemory = WritesFront bytes held_before held_after
+ReplayResult bytes held_before held_after _ = ⊥

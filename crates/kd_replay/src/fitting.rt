@@ -1,7 +1,7 @@
 //! Whether a reply may be written.
 
 ghost use Rattle.std.specs.Prelude.{◌≤◌, ◌<◌, ◌-◌, ◌^◌, length, min, IsTrue};
-ghost use Rattle.kd_wire.specs.Replies.{Answers, listing, reply_length};
+ghost use Rattle.kd_wire.specs.Replies.{IsReplyTo, listing_bytes, reply_length};
 
 use kd_types::Refusal;
 use kd_wire::{ListedItem, Reply};
@@ -14,7 +14,7 @@ const LINE: u64 = 40;
 
 /// At least as many bytes as the lines take, or the greatest number there is.
 fn lines_length(lines: &[ListedItem]) -> u64
-    ensures { min (length (listing lines.now)) (2 ^ 64 - 1) ≤ result }
+    ensures { min (length (listing_bytes lines.now)) (2 ^ 64 - 1) ≤ result }
 {
     let mut total = 0u64;
     'lines: for line in lines {
@@ -36,7 +36,7 @@ pub fn is_short(reply: &Reply) -> bool
 
 /// Whether a reply is one of the command with this number.
 pub fn is_answer(command: u64, reply: &Reply) -> bool
-    ensures { IsTrue result → Answers command reply.now }
+    ensures { IsTrue result → IsReplyTo command reply.now }
 {
     match reply {
         Reply::Hello { .. } => command == 1,

@@ -6,9 +6,10 @@
 //!   frame      (refused by its form)                                      reply
 //! ```
 //!
-//! A command is run as one take of the desk, all its visits, the leave, and a publishing of each message that its caller has pending;
-//! a receive, a read and a free are one event each. Nothing comes between the events of a frame. `specs/` has the transcript of a
-//! list of frames, and [`replay_frames`] writes it.
+//! A command is run as one take of the desk, all its visits, the leave, and a publishing of each
+//! message that its caller has pending; a receive, a read and a free are one event each. Nothing
+//! comes between the events of a frame. `specs/` has the transcript of a list of frames, and
+//! [`replay_frames`] writes it.
 #![tactic(auto)]
 
 mod fitting;
@@ -20,6 +21,3 @@ mod running;
 
 pub use laws::{a_frame_has_one_turn, frames_are_run_by_legal_events, frames_have_one_transcript};
 pub use replay::replay_frames;
-
-#[cfg(test)]
-mod tests;

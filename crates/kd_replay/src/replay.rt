@@ -2,8 +2,8 @@
 
 ghost use Rattle.std.specs.Prelude.{◌≡◌, ◌≤◌, length, IfOk};
 ghost use Rattle.kd_outside.specs.Causes.{Rose};
-ghost use Rattle.kd_replay.specs.Turns.{opening, IsReady};
-ghost use Rattle.kd_replay.specs.Transcript.{Answers};
+ghost use Rattle.kd_replay.specs.Turns.{replay_world, IsReady};
+ghost use Rattle.kd_replay.specs.Transcript.{ReplayResult};
 
 use crate::frames::frame_size;
 use crate::replying::put_answer;
@@ -18,7 +18,7 @@ const CREATOR: u32 = 1000;
 
 /// The bus of a replay: made by [`CREATOR`], with filters of 64 bytes and 8 hashes.
 fn open(alloc: Global) -> Result<World, AllocError>
-    ensures world { IfOk result (λ w. w.world ≡ opening) }
+    ensures world { IfOk result (λ w. w.world ≡ replay_world) }
     ensures ready { IfOk result (λ w. IsReady w.world) }
 {
     World::make(
@@ -31,14 +31,15 @@ fn open(alloc: Global) -> Result<World, AllocError>
     )
 }
 
-/// Answers frame after frame, each with one reply, which is written whole before the next frame is run.
+/// Answers frame after frame, each with one reply, which is written whole before the next frame is
+/// run.
 ///
-/// It ends `Done` where the bytes are whole frames, else `BadFrame` with the first place where none stands, and earlier only where the
-/// sink fails or memory is wanting.
+/// It ends `Done` where the bytes are whole frames, else `BadFrame` with the first place where none
+/// stands, and earlier only where the sink fails or memory is wanting.
 pub fn replay_frames<K: Sink>(alloc: Global, bytes: &[u8], sink: &mut K) -> Status
     requires { length bytes.now ≤ 16777216 }
     // The replies are those of the transcript of the frames, or a front of them.
-    ensures answers { Answers bytes.now (K.held sink.old) (K.held sink.new) result }
+    ensures answers { ReplayResult bytes.now (K.held sink.old) (K.held sink.new) result }
     ensures fault { result ≡ Status.WriteFault → Rose (K.faults sink.old) (K.faults sink.new) }
     ensures later { K.faults sink.old ≤ K.faults sink.new }
 {

@@ -16,7 +16,8 @@ use std::alloc::{AllocError, Global};
 fn answer(world: &mut World, alloc: Global, frame: &[u8]) -> Result<Reply, AllocError>
     requires frame { IsFrame frame.now }
     requires ready { IsReady world.old.world }
-    ensures turn { IfOk result (λ r. IsTurn world.old.world frame.now (record { next = world.new.world; reply = r })) }
+    ensures turn { IfOk result (λ r.
+        IsTurn world.old.world frame.now (record { next = world.new.world; reply = r })) }
     ensures ready { OnOk result (IsReady world.new.world) }
 {
     match read_command(alloc, frame, Port::Replay) {
@@ -26,8 +27,8 @@ fn answer(world: &mut World, alloc: Global, frame: &[u8]) -> Result<Reply, Alloc
     }
 }
 
-/// Runs a frame, or refuses it, and appends the bytes of its reply. A reply that is too long for any memory is not written, as if
-/// memory were wanting.
+/// Runs a frame, or refuses it, and appends the bytes of its reply. A reply that is too long for
+/// any memory is not written, as if memory were wanting.
 pub fn put_answer(
     world: &mut World,
     alloc: Global,
@@ -36,7 +37,8 @@ pub fn put_answer(
 ) -> Result<(), AllocError>
     requires frame { IsFrame frame.now }
     requires ready { IsReady world.old.world }
-    ensures turn { OnOk result ((t : Turn) × IsTurn world.old.world frame.now t × (world.new.world ≡ t.next) × (out.new.items ≡ out.old.items ++ reply_bytes frame.now t.reply)) }
+    ensures turn { OnOk result ((t : Turn) × IsTurn world.old.world frame.now t × (world.new.world ≡ t.next)
+        × (out.new.items ≡ out.old.items ++ reply_bytes frame.now t.reply)) }
     ensures ready { OnOk result (IsReady world.new.world) }
 {
     let reply = answer(world, alloc, frame)?;

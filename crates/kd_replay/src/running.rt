@@ -1,13 +1,18 @@
 //! A command, run whole.
 
 ghost use Rattle.std.specs.Prelude.{◌≡◌, length, true, IfOk, IsTrue, None, OnOk};
+ghost use Rattle.kd_wire.specs.Ports.{takes_opcode};
 ghost use Rattle.kd_wire.specs.Commands.{opcode_in};
-ghost use Rattle.kd_wire.specs.Ports.{runs};
 ghost use Rattle.kd_wire.specs.WellFormed.{is_well_formed};
 ghost use Rattle.kd_wire.specs.declared.port.Port.TheVariants.{Replay};
-ghost use Rattle.kd_world.specs.World.{holds_desk, is_caller, is_for_desk, publishes, says, step, take};
-ghost use Rattle.kd_core.specs.Running.{event_of, may, next_seat, said};
-ghost use Rattle.kd_replay.specs.Turns.{by_desk, at_desk, mode_of, published, reply_of, slice_number, turn, visited, IsReady};
+ghost use Rattle.kd_world.specs.Holding.{holds_desk};
+ghost use Rattle.kd_world.specs.Legal.{is_caller, is_for_desk, publishes, take};
+ghost use Rattle.kd_world.specs.Step.{step};
+ghost use Rattle.kd_world.specs.Answers.{says};
+ghost use Rattle.kd_world.specs.Whole.{next_seat, published, visits_run, whole};
+ghost use Rattle.kd_core.specs.Running.{event_of, may, said};
+ghost use Rattle.kd_replay.specs.Turns.{at_desk, mode_of, reply_of, slice_number, turn, IsReady};
+ghost use Rattle.kd_replay.specs.Answering.{reply_with};
 
 use kd_core::{Answer, Event, World};
 use kd_pool::RecvMode;
@@ -21,7 +26,8 @@ const MOST_EVENTS: u64 = 1 << 54;
 /// The greatest number of 32 bits, which stands for all above it.
 const GREATEST: u64 = 4_294_967_295;
 
-/// One event. A world that has run as many as it may takes no further one, as if memory were wanting.
+/// One event. A world that has run as many as it may takes no further one, as if memory were
+/// wanting.
 #[tactic(auto, unfolding(kd_core::specs::Running::stepped))]
 fn step(world: &mut World, alloc: Global, event: Event) -> Result<Answer, AllocError>
     requires { IsTrue (may world.old.world (event_of event)) }
@@ -44,9 +50,9 @@ fn advance(world: &mut World, alloc: Global, event: Event) -> Result<(), AllocEr
 }
 
 /// The reply of a frame that ends with this answer.
-#[tactic(auto, unfolding(crate::specs::Turns::reply_of))]
+#[tactic(auto, unfolding(crate::specs::Answering::reply_with))]
 fn reply_of(answer: Answer) -> Reply
-    ensures { result ≡ reply_of answer }
+    ensures { result ≡ reply_with answer }
 {
     match answer {
         Answer::Left(reply) => reply,
@@ -67,7 +73,7 @@ fn reply_of(answer: Answer) -> Reply
 fn visit(world: &mut World, alloc: Global, caller: u64) -> Result<(), AllocError>
     requires caller { IsTrue (is_caller caller) }
     requires holds { holds_desk world.old.world caller ≡ true }
-    ensures next { OnOk result (world.new.world ≡ visited world.old.world caller) }
+    ensures next { OnOk result (world.new.world ≡ visits_run world.old.world caller) }
     ensures holds { OnOk result (holds_desk world.new.world caller ≡ true) }
     ensures all { OnOk result (next_seat world.new.world ≡ None) }
     ensures callers { OnOk result (length world.new.world.callers ≡ length world.old.world.callers) }
@@ -103,7 +109,8 @@ fn publish(world: &mut World, alloc: Global, caller: u64) -> Result<(), AllocErr
     Ok(())
 }
 
-/// Runs a command at the desk: the take, the visits, the leave and the publishes, unless it is refused at the take.
+/// Runs a command at the desk: the take, the visits, the leave and the publishes, unless it is
+/// refused at the take.
 fn run_at_desk(
     world: &mut World,
     alloc: Global,
@@ -113,8 +120,8 @@ fn run_at_desk(
     requires caller { IsTrue (is_caller caller) }
     requires may { IsTrue (may world.old.world (take caller command)) }
     requires ready { IsReady world.old.world }
-    ensures next { OnOk result (world.new.world ≡ (by_desk world.old.world caller command).next) }
-    ensures reply { IfOk result (λ r. r ≡ (by_desk world.old.world caller command).reply) }
+    ensures next { OnOk result (world.new.world ≡ (whole world.old.world caller command).next) }
+    ensures reply { IfOk result (λ r. r ≡ reply_of (whole world.old.world caller command).answer) }
     ensures ready { OnOk result (IsReady world.new.world) }
 {
     let taken = step(world, alloc, Event::Take { caller, command })?;
@@ -131,7 +138,8 @@ fn run_at_desk(
 fn run_alone(world: &mut World, alloc: Global, event: Event) -> Result<Reply, AllocError>
     requires { IsTrue (may world.old.world (event_of event)) }
     ensures next { OnOk result (world.new.world ≡ step world.old.world (event_of event)) }
-    ensures reply { IfOk result (λ r. r ≡ reply_of (said (event_of event) (says world.old.world (event_of event)))) }
+    ensures reply { IfOk result
+        (λ r. r ≡ reply_with (said (event_of event) (says world.old.world (event_of event)))) }
 {
     let answer = step(world, alloc, event)?;
     Ok(reply_of(answer))
@@ -189,7 +197,7 @@ pub fn run(
     command: Command,
 ) -> Result<Reply, AllocError>
     requires caller { IsTrue (is_caller caller) }
-    requires command { runs Replay (opcode_in command) ≡ true }
+    requires command { takes_opcode Replay (opcode_in command) ≡ true }
     requires form { IsTrue (is_well_formed command) }
     requires ready { IsReady world.old.world }
     ensures next { OnOk result (world.new.world ≡ (turn world.old.world caller command).next) }

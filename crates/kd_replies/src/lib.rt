@@ -1,7 +1,7 @@
 //! The requests that wait for a reply.
 //!
-//! A message that expects a reply leaves a request behind: who asked, who is to reply, the cookie by
-//! which the asker knows the reply, and the moment up to which it waits. The idea comes from the
+//! A message that expects a reply leaves a request behind: who asked, who is to reply, the cookie
+//! by which the asker knows the reply, and the moment up to which it waits. The idea comes from the
 //! replies of kdbus; that the requests are one table of the bus is this project's own.
 //!
 //! ```text

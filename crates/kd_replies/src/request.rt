@@ -1,9 +1,9 @@
 //! A request that waits for its reply.
 
 ghost use Rattle.std.specs.Prelude.{◌≡◌};
-ghost use Rattle.kd_replies.specs.Order.{of_key, stands_before};
+ghost use Rattle.kd_replies.specs.Order.{of_key, request_stands_before};
 ghost use Rattle.kd_replies.specs.Renaming.{renamed};
-ghost use Rattle.kd_replies.specs.Requests.{is_dead_without, waits, waits_for};
+ghost use Rattle.kd_replies.specs.Requests.{is_dead_without, request_waits, waits_for};
 
 use kd_types::{ConnId, Cookie, Moment};
 
@@ -19,14 +19,14 @@ pub struct Request {
 impl Request {
     /// Whether it stands before the place of this asker and cookie.
     pub(crate) fn stands_before(&self, asker: ConnId, cookie: Cookie) -> bool
-        ensures { result ≡ stands_before self.now (of_key asker cookie) }
+        ensures { result ≡ request_stands_before self.now (of_key asker cookie) }
     {
         self.asker < asker || (self.asker == asker && self.cookie < cookie)
     }
 
     /// Whether it is the asker's with this cookie.
     pub(crate) fn is_of(&self, asker: ConnId, cookie: Cookie) -> bool
-        ensures { result ≡ waits asker cookie self.now }
+        ensures { result ≡ request_waits asker cookie self.now }
     {
         self.asker == asker && self.cookie == cookie
     }

@@ -2,10 +2,10 @@
 use Rattle.std.specs.Prelude.{◌≡◌, [], ◌∷◌, Some, None, refl}
 use Rattle.std.specs.declared.result.Result.TheVariants.{Ok, Err}
 use Rattle.kd_types.specs.declared.refusal.Refusal.TheVariants.{NoSuchSeal, TooLong}
-use Rattle.kd_seal.specs.Book.{Book, no_seals, seal_answer, shared, unseal_answer, unsealed, with_seal}
+use Rattle.kd_seal.specs.Book.{SealBook, no_seals, seal_answer, shared, unseal_answer, unsealed, with_seal}
 
 -- connection 1 has sealed the bytes of `sealed`
-abbrev one_seal : Book
+abbrev one_seal : SealBook
 one_seal = with_seal no_seals 1 (115 ∷ 101 ∷ 97 ∷ 108 ∷ 101 ∷ 100 ∷ [])
 
 numbers_count_from_one : seal_answer no_seals 1 6 ≡ Ok 1

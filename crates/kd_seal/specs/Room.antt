@@ -2,11 +2,11 @@
 use Rattle.std.specs.Prelude.{◌≤◌, vec_capacity}
 use Rattle.kd_seal.specs.declared.seals.Seals.TheInside.{Inside}
 use Rattle.kd_seal.specs.declared.seals.TheConstants.{SEALS, CONNECTIONS}
-use Rattle.kd_seal.specs.Book.{Book}
+use Rattle.kd_seal.specs.Book.{SealBook}
 
 -- what is in the two vectors
-abbrev pub book_of : Inside → Book
-book_of s = record { seals = s.seals.items; counters = s.counters.items }
+abbrev pub seal_book : Inside → SealBook
+seal_book s = record { seals = s.seals.items; counters = s.counters.items }
 
 -- the vectors were made with room for all seals and counters
 pub record HasRoom (s : Inside) : Type 0 where

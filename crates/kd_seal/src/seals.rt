@@ -2,7 +2,7 @@
 
 ghost use Rattle.std.specs.Prelude.{◌≡◌, ◌<◌, ◌≤◌, ◌+◌, ◌-◌, ◌^◌, ◌⊎◌, ◌↔◌, [], ◌∷◌, ◌++◌, length, Err, IfErr, IfOk, IsTrue, None, OnErr, OnOk, Some, option_copied, vec_capacity, vec_len};
 ghost use Rattle.kd_model.specs.Words.{but_those, first, some_of, those};
-ghost use Rattle.kd_seal.specs.Book.{counts, has_counted, is_of, is_seal, next_in, next_number, no_seals, seal_answer, shared, unseal_answer, unsealed, with_seal, without};
+ghost use Rattle.kd_seal.specs.Book.{counts, has_counted, is_seal_of, is_seal, next_in, next_number, no_seals, seal_answer, shared, unseal_answer, unsealed, with_seal, seals_without_conn};
 
 use crate::sealed::Sealed;
 use kd_types::{ConnId, Refusal};
@@ -44,13 +44,13 @@ pub struct Seals {
 }
 
 impl Model for Seals {
-    ghost use Rattle.kd_seal.specs.Book.{Book};
+    ghost use Rattle.kd_seal.specs.Book.{SealBook};
 
-    ghost Value = { Book };
+    ghost Value = { SealBook };
 
-    ghost use Rattle.kd_seal.specs.Room.{book_of, HasRoom};
+    ghost use Rattle.kd_seal.specs.Room.{seal_book, HasRoom};
 
-    ghost view = { book_of };
+    ghost view = { seal_book };
 
     ghost invariant = { HasRoom };
 }
@@ -66,8 +66,8 @@ impl Seals {
         })
     }
 
-    /// The number that a seal of so many bytes would get. `TooLong` above [`LONGEST`], `TooMany` where
-    /// the connection has [`SEALS_OF_ONE`] already.
+    /// The number that a seal of so many bytes would get. `TooLong` above [`LONGEST`], `TooMany`
+    /// where the connection has [`SEALS_OF_ONE`] already.
     pub fn may_seal(&self, id: ConnId, length: u64) -> Result<u64, Refusal>
         ensures answer { result ≡ seal_answer self.now id length }
     {
@@ -82,13 +82,14 @@ impl Seals {
         Ok(next_number(&self.counters, id))
     }
 
-    /// Seals the bytes under the connection's next number, with the refusals of `may_seal`. There is room
-    /// where not all [`SEALS`] are taken, and where the connection has sealed before or fewer than
-    /// [`CONNECTIONS`] others have.
+    /// Seals the bytes under the connection's next number, with the refusals of `may_seal`. There
+    /// is room where not all [`SEALS`] are taken, and where the connection has sealed before or
+    /// fewer than [`CONNECTIONS`] others have.
     #[tactic(auto, using(crate::proofs::Counting::has_counter))]
     pub fn seal(&mut self, id: ConnId, sealed: Sealed) -> Result<u64, Refusal>
         requires seals { length self.old.seals < SEALS }
-        requires counters { IsTrue (has_counted self.old id) ⊎ (length self.old.counters < CONNECTIONS) }
+        requires counters { IsTrue (has_counted self.old id)
+            ⊎ (length self.old.counters < CONNECTIONS) }
         requires counting { next_number self.old id ≤ 2 ^ 63 - 1 }
         ensures answer { result ≡ seal_answer self.old id (length sealed) }
         ensures ok { OnOk result (self.new ≡ with_seal self.old id sealed) }
@@ -108,11 +109,12 @@ impl Seals {
         Ok(number)
     }
 
-    /// A share of a range of a seal. `NoSuchSeal` where the connection has no seal of the number, or the
-    /// range isn't inside it.
+    /// A share of a range of a seal. `NoSuchSeal` where the connection has no seal of the number,
+    /// or the range isn't inside it.
     pub fn share(&self, id: ConnId, number: u64, start: u64, length: u64) -> Result<Sealed, Refusal>
         ensures ok { IfOk result (λ s. shared self.now id number start length ≡ Some s) }
-        ensures none { result ≡ Err Refusal.NoSuchSeal ↔ (shared self.now id number start length ≡ None) }
+        ensures none { result ≡ Err Refusal.NoSuchSeal
+            ↔ (shared self.now id number start length ≡ None) }
         ensures only { IfErr result (λ e. (e ≡ Refusal.NoSuchSeal) ⊎ (e ≡ Refusal.OutOfMemory)) }
     {
         let Some(seal) = find(&self.seals, id, number) else {
@@ -156,7 +158,7 @@ impl Seals {
 
     /// The connection has left: its seals go, and its counter, since its id is never used again.
     pub fn drop_conn(&mut self, id: ConnId)
-        ensures { self.new ≡ without self.old id }
+        ensures { self.new ≡ seals_without_conn self.old id }
     {
         remove_of(&mut self.seals, id);
         forget(&mut self.counters, id);
@@ -165,7 +167,7 @@ impl Seals {
 
 /// How many seals the connection has.
 fn count_of(seals: &[Seal], id: ConnId) -> u64
-    ensures { result ≡ length (those (is_of id) seals.now) }
+    ensures { result ≡ length (those (is_seal_of id) seals.now) }
 {
     seals.iter().filter(|seal| seal.id == id).count() as u64
 }
@@ -207,8 +209,10 @@ fn next_number(counters: &[Counter], id: ConnId) -> u64
 
 /// The connection's counter goes behind the others, with its next number.
 fn count(counters: &mut Vec<Counter>, id: ConnId, next: u64)
-    requires room { IsTrue (some_of (counts id) counters.old.items) ⊎ (vec_len counters.old < vec_capacity counters.old) }
-    ensures counted { counters.new.items ≡ but_those (counts id) counters.old.items ++ record { id = id; next = next } ∷ [] }
+    requires room { IsTrue (some_of (counts id) counters.old.items)
+        ⊎ (vec_len counters.old < vec_capacity counters.old) }
+    ensures counted { counters.new.items
+        ≡ but_those (counts id) counters.old.items ++ record { id = id; next = next } ∷ [] }
     ensures room { vec_capacity counters.old ≤ vec_capacity counters.new }
 {
     forget(counters, id);
@@ -230,7 +234,7 @@ fn remove(seals: &mut Vec<Seal>, id: ConnId, number: u64)
 }
 
 fn remove_of(seals: &mut Vec<Seal>, id: ConnId)
-    ensures others { seals.new.items ≡ but_those (is_of id) seals.old.items }
+    ensures others { seals.new.items ≡ but_those (is_seal_of id) seals.old.items }
     ensures room { vec_capacity seals.new ≡ vec_capacity seals.old }
 {
     seals.retain(|seal| seal.id != id);

@@ -8,27 +8,27 @@ use Rattle.std.proofs.lemmas.List.Elements.{filter-append}
 use Rattle.std.proofs.lemmas.List.Sums.{fold-append, sum_by-cons}
 use Rattle.kd_model.proofs.Least.{least_of_append, lesser_assoc}
 use Rattle.kd_model.proofs.Places.{gaps_rank}
-use Rattle.kd_model.specs.Slices.{AreInOrder, between, end_of, gaps_from, has_number, is_better, lowest_unused}
+use Rattle.kd_model.specs.Slices.{AreInOrder, between, slice_end, gaps_from, has_number, is_better, lowest_unused}
 use Rattle.kd_model.specs.Words.{least, lesser, some_of, those}
 use Rattle.kd_model.specs.declared.slice_no.TheConstants.{SLICES}
 use Rattle.kd_model.specs.declared.placed.Gap.{Gap}
 use Rattle.kd_model.specs.declared.placed.Placed.{Placed}
-use Rattle.kd_slices.specs.Gaps.{holds}
+use Rattle.kd_slices.specs.Gaps.{gap_holds}
 
 -- the best of some gaps for a length
 abbrev pub best_of : ℕ → List Gap → Option Gap
-best_of len gs = least is_better (those (holds len) gs)
+best_of len gs = least is_better (those (gap_holds len) gs)
 
 -- the best so far and the best of what is left are the best of all
 pub record Searches (start size len : ℕ) (best : Option Gap) (all rest : List Placed) : Type 0 where
   pub order : AreInOrder start size rest
   pub whole : lesser is_better best (best_of len (gaps_from start size rest)) ≡ best_of len (gaps_from 0 size all)
 
-pub searches_on : (start size len : ℕ) (best next : Option Gap) (all ss : List Placed) (s : Placed) → Searches start size len best all (s ∷ ss) → next ≡ lesser is_better best (best_of len (between start s.offset)) → Searches (end_of s) size len next all ss
+pub searches_on : (start size len : ℕ) (best next : Option Gap) (all ss : List Placed) (s : Placed) → Searches start size len best all (s ∷ ss) → next ≡ lesser is_better best (best_of len (between start s.offset)) → Searches (slice_end s) size len next all ss
 searches_on start size len best next all ss s h e =
     let here = best_of len (between start s.offset) in
-    let rest = best_of len (gaps_from (end_of s) size ss) in
-    let both : best_of len (gaps_from start size (s ∷ ss)) ≡ lesser is_better here rest = ap (least is_better) (filter-append (holds len) (between start s.offset) (gaps_from (end_of s) size ss)) ∙ least_of_append is_better gaps_rank (those (holds len) (between start s.offset)) (those (holds len) (gaps_from (end_of s) size ss)) in
+    let rest = best_of len (gaps_from (slice_end s) size ss) in
+    let both : best_of len (gaps_from start size (s ∷ ss)) ≡ lesser is_better here rest = ap (least is_better) (filter-append (gap_holds len) (between start s.offset) (gaps_from (slice_end s) size ss)) ∙ least_of_append is_better gaps_rank (those (gap_holds len) (between start s.offset)) (those (gap_holds len) (gaps_from (slice_end s) size ss)) in
     record {
       order = h.order.2;
       whole = ap (λ o. lesser is_better o rest) e ∙ lesser_assoc is_better gaps_rank best here rest ∙ ap (lesser is_better best) (sym both) ∙ h.whole;
@@ -37,12 +37,12 @@ searches_on start size len best next all ss s h e =
 -- slices in order end within the size
 pub ends_within : (start size : ℕ) (ss : List Placed) → AreInOrder start size ss → start ≤ size
 ends_within start size [] o = o
-ends_within start size (s ∷ ss) o = let rest = ends_within (end_of s) size ss o.2 in omega arith
+ends_within start size (s ∷ ss) o = let rest = ends_within (slice_end s) size ss o.2 in omega arith
 
 -- slices in order take no more bytes than there are
 pub total_within : (start size : ℕ) (ss : List Placed) → AreInOrder start size ss → start + sum_by (λ (s : Placed). s.len) ss ≤ size
 total_within start size [] o = omega arith
-total_within start size (s ∷ ss) o = let rest = total_within (end_of s) size ss o.2 in rw sum_by-cons (omega arith)
+total_within start size (s ∷ ss) o = let rest = total_within (slice_end s) size ss o.2 in rw sum_by-cons (omega arith)
 
 -- the greatest of a number and the lengths of some gaps
 abbrev pub greatest : ℕ → List Gap → ℕ
@@ -61,12 +61,12 @@ pub record Measures (start size most : ℕ) (all rest : List Placed) : Type 0 wh
   pub order : AreInOrder start size rest
   pub greatest : greatest most (gaps_from start size rest) ≡ greatest 0 (gaps_from 0 size all)
 
-pub measures_on : (start size most next : ℕ) (all ss : List Placed) (s : Placed) → Measures start size most all (s ∷ ss) → next ≡ max most (s.offset - start) → Measures (end_of s) size next all ss
+pub measures_on : (start size most next : ℕ) (all ss : List Placed) (s : Placed) → Measures start size most all (s ∷ ss) → next ≡ max most (s.offset - start) → Measures (slice_end s) size next all ss
 measures_on start size most next all ss s h e =
     let here : greatest most (between start s.offset) ≡ next = greatest_between most start s.offset ∙ sym e in
     record {
       order = h.order.2;
-      greatest = ap (λ m. greatest m (gaps_from (end_of s) size ss)) (sym here) ∙ sym (fold-append (λ m (g : Gap). max m g.len) most (between start s.offset) (gaps_from (end_of s) size ss)) ∙ h.greatest;
+      greatest = ap (λ m. greatest m (gaps_from (slice_end s) size ss)) (sym here) ∙ sym (fold-append (λ m (g : Gap). max m g.len) most (between start s.offset) (gaps_from (slice_end s) size ss)) ∙ h.greatest;
     }
 
 -- the lowest unused number from one on

@@ -3,5 +3,5 @@ use Rattle.std.specs.Prelude.{ℕ, Bool, nat_le}
 use Rattle.kd_model.specs.declared.placed.Gap.{Gap}
 
 -- whether a gap holds a length
-abbrev pub holds : ℕ → Gap → Bool
-holds len g = nat_le len g.len
+abbrev pub gap_holds : ℕ → Gap → Bool
+gap_holds len g = nat_le len g.len

@@ -3,7 +3,7 @@
 ghost use Rattle.std.specs.Prelude.{◌≡◌, Option, fold, max};
 ghost use Rattle.kd_model.specs.Slices.{AreInOrder, best_gap, between, is_better, largest_gap};
 ghost use Rattle.kd_model.specs.Words.{least, lesser, those};
-ghost use Rattle.kd_slices.specs.Gaps.{holds};
+ghost use Rattle.kd_slices.specs.Gaps.{gap_holds};
 
 use kd_model::{Gap, Placed};
 
@@ -22,9 +22,10 @@ pub fn smallest_gap(slices: &[Placed], size: u32, len: u32) -> Option<Gap>
     better(best, start, size, len)
 }
 
-/// The better of the best gap so far and what lies from `start` up to `end`, if that holds `len` bytes.
+/// The better of the best gap so far and what lies from `start` up to `end`, if that holds `len`
+/// bytes.
 fn better(best: Option<Gap>, start: u32, end: u32, len: u32) -> Option<Gap>
-    ensures { result ≡ lesser is_better best (least is_better (those (holds len) (between start end))) }
+    ensures { result ≡ lesser is_better best (least is_better (those (gap_holds len) (between start end))) }
 {
     if end <= start {
         return best;

@@ -7,8 +7,8 @@
 //!     slices = [ 1 at 0, 104 bytes | 0 at 208, 104 bytes ]
 //! ```
 //!
-//! Gaps aren't stored: they are what lies between neighbours, so slices that are given back leave one
-//! gap with nothing to merge. Placing looks at each slice once.
+//! Gaps aren't stored: they are what lies between neighbours, so slices that are given back leave
+//! one gap with nothing to merge. Placing looks at each slice once.
 #![tactic(auto)]
 
 mod gaps;

@@ -5,14 +5,14 @@ use native.Mathlib.Decide.{ℕ_discrete}
 use Rattle.kd_hands.specs.declared.views.Part.{Part}
 use Rattle.kd_hands.specs.declared.views.View.{View}
 use Rattle.kd_hands.specs.Views.{part}
-use Rattle.kd_hands.specs.Lists.{is_word_of, was_swept, has_bit}
-use Rattle.kd_hands.specs.World.{World}
+use Rattle.kd_hands.specs.Lists.{is_word_of, was_swept, has_mark}
+use Rattle.kd_hands.specs.Locks.{Locks}
 use Rattle.kd_turn.specs.Told.{Took, Passed, DidSweep}
 use Rattle.kd_hands.proofs.Entries.{opened_on}
 use Rattle.kd_toy_bus.specs.declared.act.Slip.{Slip}
 use Rattle.kd_toy_bus.specs.declared.locked.Locked.{Locked}
 use Rattle.kd_toy_bus.specs.declared.act.Act.{Act}
-use Rattle.kd_toy_bus.specs.Bus.{Adds, act_of, sits, is_seated}
+use Rattle.kd_toy_bus.specs.Bus.{Adds, slip_act, sits, is_seated}
 use Rattle.kd_toy_bus.proofs.Laws.{seated_snoc}
 
 abbrev rest_of : List ℕ → List ℕ
@@ -38,17 +38,17 @@ each_word p q a b c d is bare n lt =
         (λ x. ap (λ t. t || ((3 == k) || false)) (ne_eqb 2 k x) ∙ ap (λ t. t || false) (eq-eqb 3 k (omega arith)))))
 
 -- number 200 stands in the last of the four words
-pub last_word : (p : Part Slip) (q : Part Slip) (a b c d : ℕ) → p ≡ record q { swept = q.swept ++ (0, a) ∷ (1, b) ∷ (2, c) ∷ (3, d) ∷ [] } → q.swept ≡ [] → was_swept 200 p.swept ≡ has_bit 200 d
+pub last_word : (p : Part Slip) (q : Part Slip) (a b c d : ℕ) → p ≡ record q { swept = q.swept ++ (0, a) ∷ (1, b) ∷ (2, c) ∷ (3, d) ∷ [] } → q.swept ≡ [] → was_swept 200 p.swept ≡ has_mark 200 d
 last_word p q a b c d is bare =
     let swept : p.swept ≡ (0, a) ∷ (1, b) ∷ (2, c) ∷ (3, d) ∷ [] = ap (λ (z : Part Slip). z.swept) is ∙ ap (λ xs. xs ++ (0, a) ∷ (1, b) ∷ (2, c) ∷ (3, d) ∷ []) bare in
-    ap (was_swept 200) swept ∙ alone (has_bit 200 d)
+    ap (was_swept 200) swept ∙ alone (has_mark 200 d)
   where
     alone : (b : Bool) → (b || false) ≡ b
     alone true = refl
     alone false = refl
 
 -- the desk and the lock l are taken, the pool is swept and put, and the desk is put
-module _ (stands : ℕ → List (ℕ × Slip) → Locked → Type 0) (fact : World Slip → Type 0) (after : ℕ → Slip → (ℕ → List ℕ) → ℕ → List ℕ) (l : ℕ) (far : l ≢ 0) (x y : Locked) (e f : Slip) (found : List ℕ) (v v₁ v₂ v₃ v₄ v₅ : View Slip)
+module _ (stands : ℕ → List (ℕ × Slip) → Locked → Type 0) (fact : Locks Slip → Type 0) (after : ℕ → Slip → (ℕ → List ℕ) → ℕ → List ℕ) (l : ℕ) (far : l ≢ 0) (x y : Locked) (e f : Slip) (found : List ℕ) (v v₁ v₂ v₃ v₄ v₅ : View Slip)
     (one : Took stands fact 0 v v₁ x) (two : Took stands fact l v₁ v₂ y) (swept : DidSweep l found v₂ v₃) (put : Passed after l e v₃ v₄) (idle : (k : ℕ) → (part v k).holds ≡ false) where
   near : 0 ≢ l
   near z = far (sym z)
@@ -82,10 +82,10 @@ module _ (stands : ℕ → List (ℕ × Slip) → Locked → Type 0) (fact : Wor
     pub seen_is : (part v₅ 0).seen ≡ (part v₁ 0).seen ++ (v₄.name, f) ∷ []
     seen_is = ap (λ (p : Part Slip). p.seen) left.here ∙ ap (λ xs. xs ++ (v₄.name, f) ∷ []) (ap (λ (p : Part Slip). p.seen) desk_put)
 
-    pub desk_adds : (a : Act) → act_of f ≡ a → Adds 0 a v v₅
+    pub desk_adds : (a : Act) → slip_act f ≡ a → Adds 0 a v v₅
     desk_adds a says = record { entry = f; says = says; own = own_is ∙ ap (λ (n : ℕ). (part v 0).own ++ (n, f) ∷ []) (put.name ∙ (swept.name ∙ (two.name ∙ one.name))) }
 
-    pub pool_adds : (a : Act) → act_of e ≡ a → Adds l a v v₅
+    pub pool_adds : (a : Act) → slip_act e ≡ a → Adds l a v v₅
     pool_adds a says = record {
       entry = e;
       says = says;
@@ -94,7 +94,7 @@ module _ (stands : ℕ → List (ℕ × Slip) → Locked → Type 0) (fact : Wor
     }
 
 -- the desk and the lock l are taken, the pool is put, and the desk is put
-module _ (stands : ℕ → List (ℕ × Slip) → Locked → Type 0) (fact : World Slip → Type 0) (after : ℕ → Slip → (ℕ → List ℕ) → ℕ → List ℕ) (l : ℕ) (far : l ≢ 0) (x y : Locked) (e f : Slip) (v v₁ v₂ v₃ v₄ : View Slip)
+module _ (stands : ℕ → List (ℕ × Slip) → Locked → Type 0) (fact : Locks Slip → Type 0) (after : ℕ → Slip → (ℕ → List ℕ) → ℕ → List ℕ) (l : ℕ) (far : l ≢ 0) (x y : Locked) (e f : Slip) (v v₁ v₂ v₃ v₄ : View Slip)
     (one : Took stands fact 0 v v₁ x) (two : Took stands fact l v₁ v₂ y) (put : Passed after l e v₂ v₃) (idle : (k : ℕ) → (part v k).holds ≡ false) where
   pub desk_still : part v₃ 0 ≡ part v₁ 0
   desk_still = put.others 0 (λ z. far (sym z)) ∙ two.others 0 (λ z. far (sym z))
@@ -115,10 +115,10 @@ module _ (stands : ℕ → List (ℕ × Slip) → Locked → Type 0) (fact : Wor
     pub own_left : (part v₄ 0).own ≡ (part v 0).own ++ (v₃.name, f) ∷ []
     own_left = ap (λ (p : Part Slip). p.own) left.here ∙ ap (λ xs. xs ++ (v₃.name, f) ∷ []) (ap (λ (p : Part Slip). p.own) desk_still ∙ one.own)
 
-    pub desk_gave : (a : Act) → act_of f ≡ a → Adds 0 a v v₄
+    pub desk_gave : (a : Act) → slip_act f ≡ a → Adds 0 a v v₄
     desk_gave a says = record { entry = f; says = says; own = own_left ∙ ap (λ (n : ℕ). (part v 0).own ++ (n, f) ∷ []) (put.name ∙ (two.name ∙ one.name)) }
 
-    pub pool_gave : (a : Act) → act_of e ≡ a → Adds l a v v₄
+    pub pool_gave : (a : Act) → slip_act e ≡ a → Adds l a v v₄
     pool_gave a says = record {
       entry = e;
       says = says;
@@ -126,7 +126,7 @@ module _ (stands : ℕ → List (ℕ × Slip) → Locked → Type 0) (fact : Wor
     }
 
 -- one entry on the desk more
-pub seated_after : (c : ℕ) (own own' : List (ℕ × Slip)) (x : ℕ × Slip) → own' ≡ own ++ x ∷ [] → is_seated c own' ≡ sits c (act_of x.1) (is_seated c own)
+pub seated_after : (c : ℕ) (own own' : List (ℕ × Slip)) (x : ℕ × Slip) → own' ≡ own ++ x ∷ [] → is_seated c own' ≡ sits c (slip_act x.1) (is_seated c own)
 seated_after c own own' x is = ap (is_seated c) is ∙ seated_snoc c false own x
 
 -- a lock was taken, and put back
@@ -134,7 +134,7 @@ pub put_back : (l : ℕ) (h before now : List ℕ) → h ≡ l ∷ before → h 
 put_back l h before now was is = ap rest_of (sym is ∙ was)
 
 -- one lock is taken and put
-pub alone_adds : (stands : ℕ → List (ℕ × Slip) → Locked → Type 0) (fact : World Slip → Type 0) (after : ℕ → Slip → (ℕ → List ℕ) → ℕ → List ℕ) (l : ℕ) (a : Act) (x : Locked) (e : Slip) (v v₁ v₂ : View Slip) → Took stands fact l v v₁ x → Passed after l e v₁ v₂ → act_of e ≡ a → Adds l a v v₂
+pub alone_adds : (stands : ℕ → List (ℕ × Slip) → Locked → Type 0) (fact : Locks Slip → Type 0) (after : ℕ → Slip → (ℕ → List ℕ) → ℕ → List ℕ) (l : ℕ) (a : Act) (x : Locked) (e : Slip) (v v₁ v₂ : View Slip) → Took stands fact l v v₁ x → Passed after l e v₁ v₂ → slip_act e ≡ a → Adds l a v v₂
 alone_adds stands fact after l a x e v v₁ v₂ took put says = record {
   entry = e;
   says = says;

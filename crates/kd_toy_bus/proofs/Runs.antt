@@ -4,7 +4,7 @@ use Rattle.kd_hands.specs.Views.{part}
 use Rattle.kd_hands.specs.Lists.{made_by}
 use Rattle.kd_turn.specs.Sight.{Sight}
 use Rattle.kd_turn.specs.Told.{Ended}
-use Rattle.kd_hands.specs.World.{Fact}
+use Rattle.kd_hands.specs.Locks.{Fact}
 use Rattle.kd_toy_bus.specs.declared.act.Slip.{Slip}
 use Rattle.kd_toy_bus.specs.declared.locked.Locked.{Locked}
 use Rattle.kd_toy_bus.specs.Bus.{Tie, stands, lends, out, keeper}

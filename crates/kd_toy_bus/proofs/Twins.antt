@@ -6,7 +6,7 @@ use Rattle.kd_hands.specs.declared.views.Part.{Part}
 use Rattle.kd_hands.specs.declared.views.View.{View}
 use Rattle.kd_hands.specs.Views.{part}
 use Rattle.kd_hands.specs.Lists.{is_at, at_place}
-use Rattle.kd_hands.specs.World.{World, Histories, Fact, hands_after, opened_after}
+use Rattle.kd_hands.specs.Locks.{Locks, Histories, Fact, hands_after, opened_after}
 use Rattle.kd_hands.specs.Fits.{Owes}
 use Rattle.kd_turn.specs.Told.{Passed, Took}
 use Rattle.kd_hands.proofs.Places.{place_here, place_else, is_at_some}
@@ -20,7 +20,7 @@ Turn = Snapshot ℕ
 abbrev Tied : Histories Turn → Type 0
 Tied h = length (h.lists 1) ≡ 2 * length (h.lists 0) + length h.opened
 
-abbrev AreTied : World Turn → Type 0
+abbrev AreTied : Locks Turn → Type 0
 AreTied = Fact Tied (λ l list n. ⊥) (λ l list n. ⊥) (λ l list. None)
 
 abbrev after : ℕ → Turn → (ℕ → List ℕ) → ℕ → List ℕ

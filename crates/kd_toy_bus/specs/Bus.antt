@@ -3,7 +3,7 @@ use Rattle.std.specs.Prelude.{◌≡◌, ℕ, zero, suc, ◌<◌, ◌==◌, Bool
 use Rattle.kd_hands.specs.declared.views.View.{View}
 use Rattle.kd_hands.specs.Views.{part}
 use Rattle.kd_turn.specs.Sight.{GateSight, Sight}
-use Rattle.kd_hands.specs.World.{Histories}
+use Rattle.kd_hands.specs.Locks.{Histories}
 use Rattle.kd_toy_bus.specs.declared.act.Slip.{Slip}
 use Rattle.kd_toy_bus.specs.declared.act.Act.{Act}
 use Rattle.kd_toy_bus.specs.declared.act.Act.TheVariants.{Join, Leave, Send, Raise, Close, Offer, Receive, Idle}
@@ -13,8 +13,8 @@ use Rattle.kd_toy_bus.specs.declared.locked.Desk.{Desk}
 use Rattle.kd_toy_bus.specs.declared.locked.Pool.{Pool}
 use Rattle.kd_toy_bus.specs.declared.locked.Pool.TheVariants.{Closed, Free, Placed, Handed}
 
-abbrev pub act_of : Slip → Act
-act_of e = e.act.value
+abbrev pub slip_act : Slip → Act
+slip_act e = e.act.value
 
 -- the pool after an offer, whose sweep had its slice or not
 abbrev pub offered : Bool → Pool → Pool
@@ -44,27 +44,28 @@ pool_after Idle p = p
 -- the pool after its whole list
 abbrev pub pool_from : Pool → List (ℕ × Slip) → Pool
 pool_from p [] = p
-pool_from p (x ∷ xs) = pool_from (pool_after (act_of x.1) p) xs
+pool_from p (x ∷ xs) = pool_from (pool_after (slip_act x.1) p) xs
 
 abbrev pub pool_of : List (ℕ × Slip) → Pool
 pool_of list = pool_from Closed list
 
 -- the pass that has the seat c, after an act of the pass j
-abbrev pub keeps : ℕ → ℕ → Act → Option ℕ → Option ℕ
-keeps c j (Join s) k = cond (s == c) (Some j) k
-keeps c j (Leave s) k = cond (s == c) None k
-keeps c j (Send s) k = k
-keeps c j Raise k = k
-keeps c j Close k = k
-keeps c j (Offer swept) k = k
-keeps c j Receive k = k
-keeps c j Idle k = k
+abbrev pub keeper_after : ℕ → ℕ → Act → Option ℕ → Option ℕ
+keeper_after c j (Join s) k = cond (s == c) (Some j) k
+keeper_after c j (Leave s) k = cond (s == c) None k
+keeper_after c j (Send s) k = k
+keeper_after c j Raise k = k
+keeper_after c j Close k = k
+keeper_after c j (Offer swept) k = k
+keeper_after c j Receive k = k
+keeper_after c j Idle k = k
 
 abbrev pub kept_from : ℕ → Option ℕ → List (ℕ × Slip) → Option ℕ
 kept_from c k [] = k
-kept_from c k (x ∷ xs) = kept_from c (keeps c x.0 (act_of x.1) k) xs
+kept_from c k (x ∷ xs) = kept_from c (keeper_after c x.0 (slip_act x.1) k) xs
 
--- of a pool's lock, the pass that has its seat by the desk's list; nobody has numbers of the desk's lock
+-- of a pool's lock, the pass that has its seat by the desk's list; nobody has numbers of the desk's
+-- lock
 abbrev pub keeper : ℕ → List (ℕ × Slip) → Option ℕ
 keeper zero list = None
 keeper (suc c) list = kept_from c None list
@@ -82,7 +83,7 @@ IsFair c j Idle k = Unit {0}
 
 abbrev pub AreFair : ℕ → Option ℕ → List (ℕ × Slip) → Type 0
 AreFair c k [] = Unit {0}
-AreFair c k (x ∷ xs) = IsFair c x.0 (act_of x.1) k × AreFair c (keeps c x.0 (act_of x.1) k) xs
+AreFair c k (x ∷ xs) = IsFair c x.0 (slip_act x.1) k × AreFair c (keeper_after c x.0 (slip_act x.1) k) xs
 
 -- whether a pass has the seat c, by its own entries on the desk
 abbrev pub sits : ℕ → Act → Bool → Bool
@@ -97,35 +98,35 @@ sits c Idle b = b
 
 abbrev pub seated_from : ℕ → Bool → List (ℕ × Slip) → Bool
 seated_from c b [] = b
-seated_from c b (x ∷ xs) = seated_from c (sits c (act_of x.1) b) xs
+seated_from c b (x ∷ xs) = seated_from c (sits c (slip_act x.1) b) xs
 
 abbrev pub is_seated : ℕ → List (ℕ × Slip) → Bool
 is_seated c own = seated_from c false own
 
 -- what the desk's list asks of a pool, and what a pool's list has of it
-pub data Part : Type 0 where
-  raised : Part
-  closed : Part
-  offer : Part
+pub data Errand : Type 0 where
+  raised : Errand
+  closed : Errand
+  offer : Errand
 
--- the part of one entry of the desk at the seat c
-abbrev pub part_at : ℕ → Act → List Part
-part_at c (Join s) = cond (s == c) (raised ∷ []) []
-part_at c (Leave s) = cond (s == c) (closed ∷ []) []
-part_at c (Send s) = cond (s == c) (offer ∷ []) []
-part_at c Raise = []
-part_at c Close = []
-part_at c (Offer swept) = []
-part_at c Receive = []
-part_at c Idle = []
+-- the errand of one entry of the desk at the seat c
+abbrev pub errand_at : ℕ → Act → List Errand
+errand_at c (Join s) = cond (s == c) (raised ∷ []) []
+errand_at c (Leave s) = cond (s == c) (closed ∷ []) []
+errand_at c (Send s) = cond (s == c) (offer ∷ []) []
+errand_at c Raise = []
+errand_at c Close = []
+errand_at c (Offer swept) = []
+errand_at c Receive = []
+errand_at c Idle = []
 
 -- what the desk's list addresses to the seat c, in order
-abbrev pub parts : ℕ → List (ℕ × Slip) → List Part
-parts c [] = []
-parts c (x ∷ xs) = part_at c (act_of x.1) ++ parts c xs
+abbrev pub errands : ℕ → List (ℕ × Slip) → List Errand
+errands c [] = []
+errands c (x ∷ xs) = errand_at c (slip_act x.1) ++ errands c xs
 
--- the part that one entry of a pool is
-abbrev pub made_by_one : Act → List Part
+-- the errand that one entry of a pool is
+abbrev pub made_by_one : Act → List Errand
 made_by_one Raise = raised ∷ []
 made_by_one Close = closed ∷ []
 made_by_one (Offer swept) = offer ∷ []
@@ -136,23 +137,27 @@ made_by_one Receive = []
 made_by_one Idle = []
 
 -- what a pool's list was offered, in order
-abbrev pub made : List (ℕ × Slip) → List Part
+abbrev pub made : List (ℕ × Slip) → List Errand
 made [] = []
-made (x ∷ xs) = made_by_one (act_of x.1) ++ made xs
+made (x ∷ xs) = made_by_one (slip_act x.1) ++ made xs
 
 -- what the holder of the desk has made on the lock l since it took the desk
-abbrev pub opened_at : ℕ → List (ℕ × ℕ × Slip) → List Part
+abbrev pub opened_at : ℕ → List (ℕ × ℕ × Slip) → List Errand
 opened_at l [] = []
-opened_at l (x ∷ xs) = cond (x.0 == l) (made_by_one (act_of x.2)) [] ++ opened_at l xs
+opened_at l (x ∷ xs) = cond (x.0 == l) (made_by_one (slip_act x.2)) [] ++ opened_at l xs
 
--- each pool was offered just what the desk's list addresses to it, but for what the holder of the desk has made since
+-- each pool was offered just what the desk's list addresses to it, but for what the holder of the
+-- desk has made since
 pub record Tie (h : Histories Slip) : Type 0 where
-  pub addressed : (c : ℕ) → made (h.lists (suc c)) ≡ parts c (h.lists 0) ++ opened_at (suc c) h.opened
+  pub addressed :
+      (c : ℕ) → made (h.lists (suc c)) ≡ errands c (h.lists 0) ++ opened_at (suc c) h.opened
   pub fair : (c : ℕ) → AreFair c None (h.lists 0)
 
 -- the desk knows of each seat whether it has a keeper
 abbrev pub KnowsSeats : List (ℕ × Slip) → Desk → Type 0
-KnowsSeats list desk = (length desk.taken ≡ 3) × ((c : ℕ) → c < 3 → slice_index_or desk.taken c false ≡ is_some (kept_from c None list))
+KnowsSeats list desk =
+    (length desk.taken ≡ 3)
+    × ((c : ℕ) → c < 3 → slice_index_or desk.taken c false ≡ is_some (kept_from c None list))
 
 abbrev pub stands : ℕ → List (ℕ × Slip) → Locked → Type 0
 stands zero list x = (desk : Desk) × (x ≡ locked.Desk desk) × KnowsSeats list desk
@@ -190,8 +195,8 @@ hand_with Close hand = hand
 hand_with (Offer swept) hand = hand
 hand_with Idle hand = hand
 
-abbrev pub hand_after : ℕ → Slip → List ℕ → List ℕ
-hand_after l e hand = hand_with (act_of e) hand
+abbrev pub slip_hand : ℕ → Slip → List ℕ → List ℕ
+slip_hand l e hand = hand_with (slip_act e) hand
 
 -- giving a seat back empties the hand of its pool
 abbrev pub emptied_by : Act → Option ℕ
@@ -205,10 +210,10 @@ emptied_by Receive = None
 emptied_by Idle = None
 
 abbrev pub empties : Slip → Option ℕ
-empties e = emptied_by (act_of e)
+empties e = emptied_by (slip_act e)
 
 -- a pass of this gate of a desk and three pools, between two calls
-pub record IsIdle (gate : GateSight) (p : Sight Slip) : Type 0 where
+pub record IsBetweenCalls (gate : GateSight) (p : Sight Slip) : Type 0 where
   pub same : p.gate ≡ gate.id
   pub four : gate.locks ≡ 4
   pub held : p.held ≡ []
@@ -217,5 +222,5 @@ pub record IsIdle (gate : GateSight) (p : Sight Slip) : Type 0 where
 -- the pass made one entry on the lock l, which says this
 pub record Adds (l : ℕ) (a : Act) (v v' : View Slip) : Type 0 where
   pub entry : Slip
-  pub says : act_of entry ≡ a
+  pub says : slip_act entry ≡ a
   pub own : (part v' l).own ≡ (part v l).own ++ (v.name, entry) ∷ []

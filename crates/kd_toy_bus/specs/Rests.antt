@@ -26,8 +26,11 @@ pub record AreNew {E : Type 0} (gate : GateSight) (passes : List (Sight E)) : Ty
 -- all passes of the gate in their order, each between two calls
 pub record AreBack {E : Type 0} (gate : GateSight) (passes : List (Sight E)) : Type 0 where
   pub count : length passes ≡ gate.passes
-  pub each : (k : ℕ) (d : Sight E) → k < length passes → Rests gate (slice_index_or passes k d) × ((slice_index_or passes k d).view.name ≡ k)
+  pub each :
+      (k : ℕ) (d : Sight E) → k < length passes
+      → Rests gate (slice_index_or passes k d) × ((slice_index_or passes k d).view.name ≡ k)
 
 -- each of the passes has taken so many turns
 abbrev pub HaveTaken : {E : Type 0} → ℕ → List (Sight E) → Type 0
-HaveTaken {E} n passes = (k : ℕ) (d : Sight E) → k < length passes → (slice_index_or passes k d).view.turns ≡ n
+HaveTaken {E} n passes =
+    (k : ℕ) (d : Sight E) → k < length passes → (slice_index_or passes k d).view.turns ≡ n

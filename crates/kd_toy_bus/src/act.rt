@@ -3,8 +3,9 @@ ghost use Rattle.std.specs.Prelude.{◌≡◌};
 
 use std::snapshot::Snapshot;
 
-/// What one turn did. On the desk: a pass took a seat, gave it back, or sent to it. On a pool: it was opened, closed, offered a
-/// slice (after a sweep that had its number or not), or its slice was received. An idle turn changes nothing.
+/// What one turn did. On the desk: a pass took a seat, gave it back, or sent to it. On a pool: it
+/// was opened, closed, offered a slice (after a sweep that had its number or not), or its slice was
+/// received. An idle turn changes nothing.
 #[derive(Clone, Copy)]
 pub enum Act {
     Join(u32),

@@ -1,8 +1,8 @@
 //! The calls of the bus.
 ghost use Rattle.std.specs.Prelude.{◌≡◌, ◌≢◌, ℕ, ◌+◌, ◌^◌, ◌<◌, ◌≤◌, true, false, [], ◌∷◌, IsTrue, IsFalse, IfOk, Bool, None, is_some, length, slice_index};
 ghost use Rattle.kd_hands.specs.Views.{part, hand};
-ghost use Rattle.kd_hands.specs.Lists.{has, has_bit};
-ghost use Rattle.kd_toy_bus.specs.Bus.{Adds, IsIdle, is_seated, kept_from, pool_of, offered as pool_offered};
+ghost use Rattle.kd_hands.specs.Lists.{hand_has, has_mark};
+ghost use Rattle.kd_toy_bus.specs.Bus.{Adds, IsBetweenCalls, is_seated, kept_from, pool_of, offered as pool_offered};
 ghost use Rattle.kd_toy_bus.specs.Rests.{AreNew};
 
 use crate::act::{Act, Slip};
@@ -14,7 +14,7 @@ use std::sync::Wait;
 
 /// Whether the marks have the slice: number 200 is bit 8 of word 3.
 fn has_slice(marks: &[u64; 4]) -> bool
-    ensures { result ≡ has_bit 200 (slice_index marks.now 3) }
+    ensures { result ≡ has_mark 200 (slice_index marks.now 3) }
 {
     marks[3] / 256 % 2 == 1
 }
@@ -61,14 +61,16 @@ pub fn open(alloc: Global, passes: u32) -> Result<(Gate<Locked>, Vec<Pass<Locked
 
 /// Takes the seat, if nobody has it.
 pub fn join<R: Wait>(rt: &R, gate: &Gate<Locked>, pass: &mut Pass<Locked>, seat: u32) -> bool
-    requires idle { IsIdle gate.now pass.old }
+    requires idle { IsBetweenCalls gate.now pass.old }
     requires seat { seat < 3 }
     requires turns { pass.old.view.turns + 2 ≤ 2 ^ 43 }
-    ensures idle { IsIdle gate.now pass.new }
+    ensures idle { IsBetweenCalls gate.now pass.new }
     ensures seated { IsTrue result → is_seated seat (part pass.new.view 0).own ≡ true }
     ensures turns { pass.new.view.turns ≤ pass.old.view.turns + 2 }
     ensures entered { length (part pass.new.view 0).own ≡ length (part pass.old.view 0).own + 1 }
-    ensures opened { IsTrue result → length (part pass.new.view (seat + 1)).own ≡ length (part pass.old.view (seat + 1)).own + 1 }
+    ensures opened { IsTrue result
+        → length (part pass.new.view (seat + 1)).own
+        ≡ length (part pass.old.view (seat + 1)).own + 1 }
     ensures name { pass.new.view.name ≡ pass.old.view.name }
     ensures joined { IsTrue result → Adds 0 (Act.Join seat) pass.old.view pass.new.view }
     ensures raised { IsTrue result → Adds (seat + 1) Act.Raise pass.old.view pass.new.view }
@@ -98,17 +100,19 @@ pub fn join<R: Wait>(rt: &R, gate: &Gate<Locked>, pass: &mut Pass<Locked>, seat:
 
 /// Offers a slice to the seat's pool; false where nobody has the seat.
 pub fn send<R: Wait>(rt: &R, gate: &Gate<Locked>, pass: &mut Pass<Locked>, seat: u32) -> bool
-    requires idle { IsIdle gate.now pass.old }
+    requires idle { IsBetweenCalls gate.now pass.old }
     requires seat { seat < 3 }
     requires turns { pass.old.view.turns + 2 ≤ 2 ^ 43 }
-    ensures idle { IsIdle gate.now pass.new }
-    ensures seats { (c : ℕ) → is_seated c (part pass.new.view 0).own ≡ is_seated c (part pass.old.view 0).own }
+    ensures idle { IsBetweenCalls gate.now pass.new }
+    ensures seats { (c : ℕ) → is_seated c (part pass.new.view 0).own
+        ≡ is_seated c (part pass.old.view 0).own }
     ensures turns { pass.new.view.turns ≤ pass.old.view.turns + 2 }
     ensures entered { length (part pass.new.view 0).own ≡ length (part pass.old.view 0).own + 1 }
     ensures name { pass.new.view.name ≡ pass.old.view.name }
     ensures told { result ≡ is_some (kept_from seat None (part pass.new.view 0).seen) }
     ensures sent { IsTrue result → Adds 0 (Act.Send seat) pass.old.view pass.new.view }
-    ensures offered { IsTrue result → (swept : Bool) × Adds (seat + 1) (Act.Offer swept) pass.old.view pass.new.view }
+    ensures offered { IsTrue result
+        → (swept : Bool) × Adds (seat + 1) (Act.Offer swept) pass.old.view pass.new.view }
 {
     let Locked::Desk(desk) = pass.take(rt, gate, 0) else {
         unreachable!()
@@ -132,18 +136,20 @@ pub fn send<R: Wait>(rt: &R, gate: &Gate<Locked>, pass: &mut Pass<Locked>, seat:
     true
 }
 
-/// Takes the slice that was offered into the hand; false where there is none. The pass has the seat.
+/// Takes the slice that was offered into the hand; false where there is none. The pass has the
+/// seat.
 pub fn receive<R: Wait>(rt: &R, gate: &Gate<Locked>, pass: &mut Pass<Locked>, seat: u32) -> bool
-    requires idle { IsIdle gate.now pass.old }
+    requires idle { IsBetweenCalls gate.now pass.old }
     requires seat { seat < 3 }
     requires seated { is_seated seat (part pass.old.view 0).own ≡ true }
     requires turns { pass.old.view.turns < 2 ^ 43 }
-    ensures idle { IsIdle gate.now pass.new }
-    ensures received { IsTrue result → has 200 (hand pass.new.view (seat + 1)) ≡ true }
+    ensures idle { IsBetweenCalls gate.now pass.new }
+    ensures received { IsTrue result → hand_has 200 (hand pass.new.view (seat + 1)) ≡ true }
     ensures none { IsFalse result → hand pass.new.view (seat + 1) ≡ hand pass.old.view (seat + 1) }
     ensures desk { part pass.new.view 0 ≡ part pass.old.view 0 }
     ensures turns { pass.new.view.turns ≡ pass.old.view.turns + 1 }
-    ensures entered { length (part pass.new.view (seat + 1)).own ≡ length (part pass.old.view (seat + 1)).own + 1 }
+    ensures entered { length (part pass.new.view (seat + 1)).own
+        ≡ length (part pass.old.view (seat + 1)).own + 1 }
     ensures name { pass.new.view.name ≡ pass.old.view.name }
     ensures took { IsTrue result → Adds (seat + 1) Act.Receive pass.old.view pass.new.view }
     ensures nothing { IsFalse result → pool_of (part pass.new.view (seat + 1)).seen ≢ Pool.Placed }
@@ -167,11 +173,11 @@ pub fn receive<R: Wait>(rt: &R, gate: &Gate<Locked>, pass: &mut Pass<Locked>, se
 
 /// Gives the slice back, in one step and without waiting.
 pub fn release(gate: &Gate<Locked>, pass: &mut Pass<Locked>, seat: u32)
-    requires idle { IsIdle gate.now pass.old }
+    requires idle { IsBetweenCalls gate.now pass.old }
     requires seat { seat < 3 }
-    requires in_hand { has 200 (hand pass.old.view (seat + 1)) ≡ true }
-    ensures idle { IsIdle gate.now pass.new }
-    ensures gone { has 200 (hand pass.new.view (seat + 1)) ≡ false }
+    requires in_hand { hand_has 200 (hand pass.old.view (seat + 1)) ≡ true }
+    ensures idle { IsBetweenCalls gate.now pass.new }
+    ensures gone { hand_has 200 (hand pass.new.view (seat + 1)) ≡ false }
     ensures steps { pass.new.view.steps ≡ pass.old.view.steps + 1 }
     ensures turns { pass.new.view.turns ≡ pass.old.view.turns }
     ensures parts { pass.new.view.parts ≡ pass.old.view.parts }
@@ -182,18 +188,20 @@ pub fn release(gate: &Gate<Locked>, pass: &mut Pass<Locked>, seat: u32)
 
 /// Gives the seat back, which the pass has, and with it what is in its hand.
 pub fn leave<R: Wait>(rt: &R, gate: &Gate<Locked>, pass: &mut Pass<Locked>, seat: u32)
-    requires idle { IsIdle gate.now pass.old }
+    requires idle { IsBetweenCalls gate.now pass.old }
     requires seat { seat < 3 }
     requires seated { is_seated seat (part pass.old.view 0).own ≡ true }
     requires turns { pass.old.view.turns + 2 ≤ 2 ^ 43 }
-    ensures idle { IsIdle gate.now pass.new }
+    ensures idle { IsBetweenCalls gate.now pass.new }
     ensures left { is_seated seat (part pass.new.view 0).own ≡ false }
-    ensures others { (c : ℕ) → c ≢ seat → is_seated c (part pass.new.view 0).own ≡ is_seated c (part pass.old.view 0).own }
+    ensures others { (c : ℕ) → c ≢ seat
+        → is_seated c (part pass.new.view 0).own ≡ is_seated c (part pass.old.view 0).own }
     ensures emptied { hand pass.new.view (seat + 1) ≡ [] }
     ensures turns { pass.new.view.turns ≡ pass.old.view.turns + 2 }
     ensures name { pass.new.view.name ≡ pass.old.view.name }
     ensures entered { length (part pass.new.view 0).own ≡ length (part pass.old.view 0).own + 1 }
-    ensures closed { length (part pass.new.view (seat + 1)).own ≡ length (part pass.old.view (seat + 1)).own + 1 }
+    ensures closed { length (part pass.new.view (seat + 1)).own
+        ≡ length (part pass.old.view (seat + 1)).own + 1 }
     ensures gave { Adds 0 (Act.Leave seat) pass.old.view pass.new.view }
     ensures shut { Adds (seat + 1) Act.Close pass.old.view pass.new.view }
 {

@@ -1,7 +1,7 @@
 //! A value that counts the turns on its lock. A turn may lend a number to the second pass.
 ghost use Rattle.std.specs.Prelude.{◌≡◌, ◌⊎◌, ℕ, ◌+◌, ◌*◌, ◌^◌, ◌<◌, ◌≤◌, [], length, true, false, None, Some, IfOk};
 ghost use Rattle.kd_hands.specs.Views.{hand, part};
-ghost use Rattle.kd_hands.specs.Lists.{has};
+ghost use Rattle.kd_hands.specs.Lists.{hand_has};
 ghost use Rattle.kd_toy_bus.specs.Rests.{AreBack, AreNew, HaveTaken, Rests};
 ghost use Rattle.kd_toy_bus.specs.Counts.{turns_of_round};
 
@@ -25,7 +25,7 @@ impl Standing for Count {
     type Entry = Snapshot<Option<u32>>;
 
     ghost use Rattle.std.specs.Prelude.{◌≡◌, length, Some, None};
-    ghost use Rattle.kd_toy_bus.specs.Counts.{hand_with};
+    ghost use Rattle.kd_toy_bus.specs.Counts.{counted_hand};
 
     ghost stands = { λ l list x. x.turns ≡ length list };
 
@@ -37,7 +37,7 @@ impl Standing for Count {
 
     ghost keeper = { λ l list. Some 1 };
 
-    ghost hand_after = { λ l e hand. hand_with e.value hand };
+    ghost hand_after = { λ l e hand. counted_hand e.value hand };
 
     ghost empties = { λ e. None };
 }
@@ -77,8 +77,9 @@ fn turn_lending<R: Wait>(
     ensures rests { Rests gate.now pass.new }
     ensures name { pass.new.view.name ≡ pass.old.view.name }
     ensures turns { pass.new.view.turns ≡ pass.old.view.turns + 1 }
-    ensures entered { length (part pass.new.view lock).own ≡ length (part pass.old.view lock).own + 1 }
-    ensures lent { (n : ℕ) → lent ≡ Some n → has n (hand pass.new.view lock) ≡ true }
+    ensures entered { length (part pass.new.view lock).own
+        ≡ length (part pass.old.view lock).own + 1 }
+    ensures lent { (n : ℕ) → lent ≡ Some n → hand_has n (hand pass.new.view lock) ≡ true }
 {
     let Count { turns } = pass.take(rt, gate, lock);
     let entry = Snapshot::of(&lent);
@@ -94,7 +95,8 @@ pub fn turn<R: Wait>(rt: &R, gate: &Gate<Count>, pass: &mut Pass<Count>, lock: u
     ensures rests { Rests gate.now pass.new }
     ensures name { pass.new.view.name ≡ pass.old.view.name }
     ensures turns { pass.new.view.turns ≡ pass.old.view.turns + 1 }
-    ensures entered { length (part pass.new.view lock).own ≡ length (part pass.old.view lock).own + 1 }
+    ensures entered { length (part pass.new.view lock).own
+        ≡ length (part pass.old.view lock).own + 1 }
 {
     turn_lending(rt, gate, pass, lock, None);
 }
@@ -108,7 +110,7 @@ pub fn borrow<R: Wait>(rt: &R, gate: &Gate<Count>, pass: &mut Pass<Count>, lock:
     ensures rests { Rests gate.now pass.new }
     ensures name { pass.new.view.name ≡ pass.old.view.name }
     ensures turns { pass.new.view.turns ≡ pass.old.view.turns + 1 }
-    ensures in_hand { has number (hand pass.new.view lock) ≡ true }
+    ensures in_hand { hand_has number (hand pass.new.view lock) ≡ true }
 {
     turn_lending(rt, gate, pass, lock, Some(number));
 }
@@ -161,7 +163,8 @@ pub fn rounds_of_all<R: Threads + Wait + Sync>(
     Ok(all)
 }
 
-/// While the first pass holds the lock, a thread marks the number of the second one; what the first then sweeps, twice.
+/// While the first pass holds the lock, a thread marks the number of the second one; what the first
+/// then sweeps, twice.
 fn swept_while_held<R: Threads + Wait + Sync>(
     rt: &R,
     gate: &Gate<Count>,
@@ -173,18 +176,18 @@ fn swept_while_held<R: Threads + Wait + Sync>(
     requires locks { 0 < gate.now.locks }
     requires marker { Rests gate.now marker }
     requires number { number < 256 }
-    requires in_hand { has number (hand marker.view 0) ≡ true }
+    requires in_hand { hand_has number (hand marker.view 0) ≡ true }
     ensures holder { Rests gate.now holder.new × (holder.new.view.name ≡ holder.old.view.name) }
     ensures marker { Rests gate.now result.2 × (result.2.view.name ≡ marker.view.name) }
-    ensures gone { has number (hand result.2.view 0) ≡ false }
+    ensures gone { hand_has number (hand result.2.view 0) ≡ false }
 {
     let Count { turns } = holder.take(rt, gate, 0);
     let mark = || -> Pass<Count>
         requires rests { Rests gate.now marker × (0 < gate.now.locks) }
-        requires number { (number < 256) × (has number (hand marker.view 0) ≡ true) }
+        requires number { (number < 256) × (hand_has number (hand marker.view 0) ≡ true) }
         ensures rests { Rests gate.entry.now result }
         ensures name { result.view.name ≡ marker.view.name }
-        ensures gone { has number (hand result.view 0) ≡ false }
+        ensures gone { hand_has number (hand result.view 0) ≡ false }
     { given_back(gate, marker, number) };
     let (marker, ()) = thread::join(rt, mark, || ());
     let first = holder.sweep(gate, 0);
@@ -194,8 +197,8 @@ fn swept_while_held<R: Threads + Wait + Sync>(
     (first, second, marker)
 }
 
-/// A gate of one value and two passes: the second pass borrows the number and marks it while the first holds the lock. What the first
-/// sweeps then, twice.
+/// A gate of one value and two passes: the second pass borrows the number and marks it while the
+/// first holds the lock. What the first sweeps then, twice.
 pub fn swept_twice<R: Threads + Wait + Sync>(
     rt: &R,
     alloc: Global,
@@ -217,10 +220,10 @@ fn given_back(gate: &Gate<Count>, mut pass: Pass<Count>, number: u32) -> Pass<Co
     requires rests { Rests gate.now pass }
     requires locks { 0 < gate.now.locks }
     requires number { number < 256 }
-    requires in_hand { has number (hand pass.view 0) ≡ true }
+    requires in_hand { hand_has number (hand pass.view 0) ≡ true }
     ensures rests { Rests gate.now result }
     ensures name { result.view.name ≡ pass.view.name }
-    ensures gone { has number (hand result.view 0) ≡ false }
+    ensures gone { hand_has number (hand result.view 0) ≡ false }
 {
     pass.mark(gate, 0, number);
     pass

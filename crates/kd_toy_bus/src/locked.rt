@@ -34,7 +34,7 @@ pub enum Locked {
 impl Standing for Locked {
     type Entry = Slip;
 
-    ghost use Rattle.kd_toy_bus.specs.Bus.{stands, Tie, lends, out, keeper, hand_after, empties};
+    ghost use Rattle.kd_toy_bus.specs.Bus.{stands, Tie, lends, out, keeper, slip_hand, empties};
 
     ghost stands = { stands };
 
@@ -46,7 +46,7 @@ impl Standing for Locked {
 
     ghost keeper = { keeper };
 
-    ghost hand_after = { hand_after };
+    ghost hand_after = { slip_hand };
 
     ghost empties = { empties };
 }

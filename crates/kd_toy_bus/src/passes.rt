@@ -1,7 +1,7 @@
 //! The passes of a gate, as they were made and as they come back.
 ghost use Rattle.std.specs.Prelude.{◌≡◌, ℕ, [], ◌∷◌, length, IfOk, map};
 ghost use Rattle.kd_turn.specs.Told.{Ended};
-ghost use Rattle.kd_hands.specs.World.{Fact};
+ghost use Rattle.kd_hands.specs.Locks.{Fact};
 ghost use Rattle.kd_toy_bus.specs.Rests.{AreBack, AreNew, IsNew, Rests};
 
 use kd_turn::gate::Gate;
@@ -54,7 +54,9 @@ pub fn values_of<T: Standing + Drop>(
 ) -> Result<Vec<T>, AllocError>
     requires back { AreBack gate passes.items }
     ensures count { IfOk result (λ values. length values.items ≡ gate.locks) }
-    ensures ended { IfOk result (λ values. Ended T.stands (Fact T.tie T.lends T.out T.keeper) gate.passes (map (λ p. p.view) passes.items) values.items) }
+    ensures ended { IfOk result (λ values.
+        Ended T.stands (Fact T.tie T.lends T.out T.keeper) gate.passes
+        (map (λ p. p.view) passes.items) values.items) }
 {
     match gate.close(alloc, passes) {
         Ok(values) => Ok(values),

@@ -1,7 +1,7 @@
 //! A run of the bus: two passes, each in a thread of its own.
 ghost use Rattle.std.specs.Prelude.{◌≡◌, ℕ, ◌+◌, ◌*◌, ◌^◌, ◌<◌, ◌≤◌, true, length, IfOk, IfSome};
 ghost use Rattle.kd_hands.specs.Views.{part};
-ghost use Rattle.kd_toy_bus.specs.Bus.{IsIdle, is_seated};
+ghost use Rattle.kd_toy_bus.specs.Bus.{IsBetweenCalls, is_seated};
 ghost use Rattle.kd_toy_bus.specs.Run.{HasAll};
 
 use crate::bus::{join, leave, open, receive, release, send};
@@ -21,10 +21,10 @@ fn receives<R: Wait>(
     mut pass: Pass<Locked>,
     rounds: u32,
 ) -> Pass<Locked>
-    requires idle { IsIdle gate.now pass }
+    requires idle { IsBetweenCalls gate.now pass }
     requires seated { is_seated 0 (part pass.view 0).own ≡ true }
     requires turns { pass.view.turns + rounds ≤ 2 ^ 43 }
-    ensures idle { IsIdle gate.now result }
+    ensures idle { IsBetweenCalls gate.now result }
     ensures desk { part result.view 0 ≡ part pass.view 0 }
     ensures received { length (part result.view 1).own ≡ length (part pass.view 1).own + rounds }
     ensures turns { result.view.turns ≡ pass.view.turns + rounds }
@@ -40,9 +40,9 @@ fn receives<R: Wait>(
 
 /// Sends to seat 0 so many times.
 fn sends<R: Wait>(rt: &R, gate: &Gate<Locked>, mut pass: Pass<Locked>, rounds: u32) -> Pass<Locked>
-    requires idle { IsIdle gate.now pass }
+    requires idle { IsBetweenCalls gate.now pass }
     requires turns { pass.view.turns + 2 * rounds ≤ 2 ^ 43 }
-    ensures idle { IsIdle gate.now result }
+    ensures idle { IsBetweenCalls gate.now result }
     ensures sent { length (part result.view 0).own ≡ length (part pass.view 0).own + rounds }
     ensures name { result.view.name ≡ pass.view.name }
 {
@@ -60,36 +60,38 @@ fn both_run<R: Threads + Wait + Sync>(
     sender: Pass<Locked>,
     rounds: u32,
 ) -> (Pass<Locked>, Pass<Locked>)
-    requires member { IsIdle gate.now member × (member.view.turns ≤ 2) }
+    requires member { IsBetweenCalls gate.now member × (member.view.turns ≤ 2) }
     requires seated { is_seated 0 (part member.view 0).own ≡ true }
-    requires sender { IsIdle gate.now sender × (sender.view.turns ≡ 0) }
-    ensures member { IsIdle gate.now result.0 × (result.0.view.name ≡ member.view.name) }
+    requires sender { IsBetweenCalls gate.now sender × (sender.view.turns ≡ 0) }
+    ensures member { IsBetweenCalls gate.now result.0 × (result.0.view.name ≡ member.view.name) }
     ensures desk { part result.0.view 0 ≡ part member.view 0 }
-    ensures received { length (part result.0.view 1).own ≡ length (part member.view 1).own + rounds }
+    ensures received { length (part result.0.view 1).own
+        ≡ length (part member.view 1).own + rounds }
     ensures turns { result.0.view.turns ≤ 2 + rounds }
-    ensures sender { IsIdle gate.now result.1 × (result.1.view.name ≡ sender.view.name) }
+    ensures sender { IsBetweenCalls gate.now result.1 × (result.1.view.name ≡ sender.view.name) }
     ensures sent { length (part result.1.view 0).own ≡ length (part sender.view 0).own + rounds }
 {
     let receiving = || -> Pass<Locked>
-        requires idle { IsIdle gate.now member × (member.view.turns ≤ 2) }
+        requires idle { IsBetweenCalls gate.now member × (member.view.turns ≤ 2) }
         requires seated { is_seated 0 (part member.view 0).own ≡ true }
-        ensures idle { IsIdle gate.entry.now result }
+        ensures idle { IsBetweenCalls gate.entry.now result }
         ensures name { result.view.name ≡ member.view.name }
         ensures desk { part result.view 0 ≡ part member.view 0 }
-        ensures received { length (part result.view 1).own ≡ length (part member.view 1).own + rounds }
+        ensures received { length (part result.view 1).own
+            ≡ length (part member.view 1).own + rounds }
         ensures turns { result.view.turns ≤ 2 + rounds }
     { receives(rt, gate, member, rounds) };
     let sending = || -> Pass<Locked>
-        requires idle { IsIdle gate.now sender × (sender.view.turns ≡ 0) }
-        ensures idle { IsIdle gate.entry.now result }
+        requires idle { IsBetweenCalls gate.now sender × (sender.view.turns ≡ 0) }
+        ensures idle { IsBetweenCalls gate.entry.now result }
         ensures name { result.view.name ≡ sender.view.name }
         ensures sent { length (part result.view 0).own ≡ length (part sender.view 0).own + rounds }
     { sends(rt, gate, sender, rounds) };
     thread::join(rt, receiving, sending)
 }
 
-/// A bus of two passes: the first takes seat 0, receives so many times and leaves, while the second sends as many times. The
-/// values in the end; none where the seat wasn't free.
+/// A bus of two passes: the first takes seat 0, receives so many times and leaves, while the second
+/// sends as many times. The values in the end; none where the seat wasn't free.
 pub fn run<R: Threads + Wait + Sync>(
     rt: &R,
     alloc: Global,

@@ -1,5 +1,5 @@
-//! Two counted values that are tied: of the second one's turns there are twice as many as of the first one's, and as many more as
-//! the holder of the first has made since it took it.
+//! Two counted values that are tied: of the second one's turns there are twice as many as of the
+//! first one's, and as many more as the holder of the first has made since it took it.
 ghost use Rattle.std.specs.Prelude.{◌≡◌, ℕ, ◌+◌, ◌*◌, ◌^◌, ◌<◌, ◌≤◌, length, IfOk};
 ghost use Rattle.kd_toy_bus.specs.Rests.{AreBack, AreNew, HaveTaken, Rests};
 

@@ -1,4 +1,5 @@
--- A new gate and a new pass, how a pass takes another in, and what is known of the values and the lists once it took all others in.
+-- A new gate and a new pass, how a pass takes another in, and what is known of the values and the
+-- lists once it took all others in.
 use Rattle.std.proofs.Common.{◌≡◌, ℕ, ◌+◌, ◌*◌, ◌^◌, ◌<◌, ◌≤◌, ◌≢◌, ◌==◌, true, false, cond, List, [], ◌∷◌, ◌++◌, map, length, get_or, set, replicate, subst, sym, refl, ap, ◌∙◌, arith, length-append, length-set, Bool, ⊎_elim, get_or-set_other, get_or-set_same}
 use Rattle.std.specs.Prelude.{None, Some, Any}
 use Rattle.std.proofs.lemmas.List.{get_or_past, length-map, length-replicate}
@@ -15,7 +16,7 @@ use Rattle.kd_hands.specs.declared.views.View.{View}
 use Rattle.kd_hands.specs.Views.{part, blank, opening_view, last_view, parent, child, spent, both}
 use Rattle.kd_turn.specs.Rule.{shows, cell_of, Lock, IsHome, turns_of, IsPass, IsBack, SeatOk, Turning, opened_by, world_of}
 use Rattle.kd_hands.specs.Lists.{at_place, is_at}
-use Rattle.kd_hands.specs.World.{World, opening_world}
+use Rattle.kd_hands.specs.Locks.{Locks, opening_locks}
 use Rattle.kd_hands.proofs.Lists.{sum_set, sum_set, all_alike, read, snoc_at, some_at, each_set, each_snoc, map_at}
 use Rattle.kd_hands.proofs.Places.{some_same, every, place_here, not_both, nobody_at, same_at}
 use Rattle.kd_turn.proofs.Moved.{known, regrouped, tells, at_pass, shown_set, unborn}
@@ -28,7 +29,7 @@ use Rattle.kd_turn.specs.Told.{Ended, Gathered}
 fresh_pass : {E : Type 0} (n j : ℕ) → IsPass n j (opening_view {E = E} n j)
 fresh_pass n j = search (arith, length-replicate)
 
-module _ {X E : Type 0} (stands : ℕ → List (ℕ × E) → X → Type 0) (fact : World E → Type 0) (most : ℕ) where
+module _ {X E : Type 0} (stands : ℕ → List (ℕ × E) → X → Type 0) (fact : Locks E → Type 0) (most : ℕ) where
   pub splits : (id : ℕ) (v : View E) → v.live ≡ true → 0 < v.made → v.made < most → Splits (Turning {X = X} stands fact most) id v (parent v) (child v)
   splits id v live last room s r at = at_pass r id v at live
       (λ v. 0 < v.made → v.made < most
@@ -62,7 +63,7 @@ module _ {X E : Type 0} (stands : ℕ → List (ℕ × E) → X → Type 0) (fac
 
   pub opens : (n : ℕ) (words : List ℕ) (cells : List (Cell X E)) (xs : List X) → 0 < most → most ≤ 1024 → words ≡ replicate (6 * n) 0 → cells ≡ map cell_of xs
       → n ≡ length xs
-      → ((l : ℕ) (x : X) → get_elem? xs l ≡ some x → stands l [] x) → fact opening_world → Turning stands fact most (opening words cells (last_view n 0))
+      → ((l : ℕ) (x : X) → get_elem? xs l ≡ some x → stands l [] x) → fact opening_locks → Turning stands fact most (opening words cells (last_view n 0))
   opens n words cells xs some_pass few ws cs is fits tied =
       let new : View E = last_view n 0 in
       let locks : ℕ → Lock E = λ l. record { list = []; next = 0; drawer = λ _. 0; holder = None; marks = λ _. 0 } in
@@ -90,10 +91,10 @@ module _ {X E : Type 0} (stands : ℕ → List (ℕ × E) → X → Type 0) (fac
             let at_home : IsHome stands l [] (map some cells) = (cell_of x.0, home, x.0, refl, fits l x.0 x.1) in
             search (arith, zeros);
         back = λ j. All-nil (IsBack (λ _. false) (opening_view n));
-        tied = subst fact (λ i. record opening_world { hands = λ j k. sym (all_alike n k []) i; swept = λ j k. (bare k i).swept }) tied;
+        tied = subst fact (λ i. record opening_locks { hands = λ j k. sym (all_alike n k []) i; swept = λ j k. (bare k i).swept }) tied;
       }
 
-module _ {X E : Type 0} (stands : ℕ → List (ℕ × E) → X → Type 0) (fact : World E → Type 0) (most : ℕ) where
+module _ {X E : Type 0} (stands : ℕ → List (ℕ × E) → X → Type 0) (fact : Locks E → Type 0) (most : ℕ) where
   pub joins : (id other : ℕ) (v w : View E) → v.live ≡ true → w.live ≡ true → ((l : ℕ) → (part w l).holds ≡ false)
       → Joins (Turning {X = X} stands fact most) id v other w (both v w) spent
   joins id other v w live alive idle s r at ne at_w =

@@ -1,4 +1,5 @@
--- What the rule says of one pass, and the one law of all steps: a pass that moves at one lock leaves the rest of the rule standing.
+-- What the rule says of one pass, and the one law of all steps: a pass that moves at one lock
+-- leaves the rest of the rule standing.
 use Rattle.std.proofs.Common.{◌≡◌, ℕ, ◌+◌, ◌*◌, ◌^◌, ◌<◌, ◌≤◌, ◌≢◌, ◌==◌, Bool, true, false, cond, List, [], length, get_or, set, subst, sym, refl, ap, ◌∙◌, arith, length-set, get_or-set_other, get_or-set_same}
 use Rattle.std.specs.Prelude.{Option, Some, None}
 use Rattle.std.proofs.lemmas.List.{get_or_past, get_or_default}
@@ -10,15 +11,16 @@ use mathlib.Core.Option as maybe
 use lib.ListN.{get_elem?}
 use Rattle.atomic_table.specs.Table.{State}
 use Rattle.kd_turn.specs.declared.views.Cell.{Cell}
+use Rattle.kd_model.proofs.Truth.{not_true}
 use Rattle.kd_hands.specs.declared.views.Part.{Part}
 use Rattle.kd_hands.specs.declared.views.View.{View}
 use Rattle.kd_hands.specs.Views.{part, hand, blank, opening_view, spent}
 use Rattle.kd_hands.specs.Lists.{made_by, at_place, is_at}
-use Rattle.kd_hands.specs.World.{Histories, World}
+use Rattle.kd_hands.specs.Locks.{Histories, Locks}
 use Rattle.kd_hands.specs.Fits.{Fits, Stood}
 use Rattle.kd_turn.specs.Rule.{shows, Lock, turns_of, opened_by, world_of, IsSized, IsPass, IsBack, IsHome, SeatOk, LockOk, Turning}
 use Rattle.kd_hands.proofs.Lists.{sum_set, read, each_set}
-use Rattle.kd_hands.proofs.Places.{every, place_here, place_else, place_same, place_map, place_zero, zero_same, true_or_not, not_both, is_at_some, some_if_at}
+use Rattle.kd_hands.proofs.Places.{every, place_here, place_else, place_same, place_map, place_zero, zero_same, not_both, is_at_some, some_if_at}
 
 -- a view that is live was not taken in
 live_one : {E : Type 0} (b : Bool) (v u : View E) → v.live ≡ true → v ≡ cond b spent u → (v ≡ u) × (b ≡ false)
@@ -28,8 +30,9 @@ live_one false v u live e = (e, refl)
 few_turns : {E : Type 0} (b : Bool) (u : View E) → u.turns ≤ 2 ^ 43 → (cond b spent u).turns ≤ 2 ^ 43
 few_turns b u h = grind arith
 
--- The world u is the old one, but for the lock l and the pass id, of which it has these; and what the passes have opened
-pub record Becomes {E : Type 0} (id l : ℕ) (old u : World E) (lock : Lock E) (hand : ℕ → List ℕ) (words : List (ℕ × ℕ))
+-- The world u is the old one, but for the lock l and the pass id, of which it has these; and what
+-- the passes have opened
+pub record Becomes {E : Type 0} (id l : ℕ) (old u : Locks E) (lock : Lock E) (hand : ℕ → List ℕ) (words : List (ℕ × ℕ))
     (opens : ℕ → List (ℕ × ℕ × E)) : Type 0 where
   pub lists : Path (ℕ → List (ℕ × E)) u.told.lists (at_place old.told.lists l lock.list)
   pub marks : Path (ℕ → ℕ → ℕ) u.marks (at_place old.marks l lock.marks)
@@ -42,7 +45,7 @@ pub record Becomes {E : Type 0} (id l : ℕ) (old u : World E) (lock : Lock E) (
 abbrev pub tells : {E : Type 0} → View E → List (Part E) × List (List ℕ) × List (ℕ × ℕ × E)
 tells v = (v.parts, v.hands, v.opened)
 
-module _ {X E : Type 0} {stands : ℕ → List (ℕ × E) → X → Type 0} {fact : World E → Type 0} {most : ℕ} {s : State (Cell X E) (View E)}
+module _ {X E : Type 0} {stands : ℕ → List (ℕ × E) → X → Type 0} {fact : Locks E → Type 0} {most : ℕ} {s : State (Cell X E) (View E)}
     (r : Turning stands fact most s) where
   -- what is known of the pass id
   abbrev pub known : ℕ → View E
@@ -137,12 +140,13 @@ module _ {X E : Type 0} {stands : ℕ → List (ℕ × E) → X → Type 0} {fac
             (sym (seat 0).holds ∙ h);
         hands = λ k. ap (λ (j : ℕ). hand (r.passes j) k) (sym (r.each_pass id).name);
         swept = λ k. ap (λ (j : ℕ). (part (r.passes j) k).swept) (sym (r.each_pass id).name);
-        sole = λ k h i ne. (r.each_seat i k).unswept (true_or_not (part (r.passes i) k).holds
+        sole = λ k h i ne. (r.each_seat i k).unswept (not_true (part (r.passes i) k).holds
             (λ t. ne (alone id k i ((seat k).here h).0 t ∙ sym (r.each_pass id).name)));
       }
 
--- The pass id moves at the lock l: it knows p of it now, has these hands, open entries, turns and steps, and the lock comes to `lock`
-module _ {X E : Type 0} {stands : ℕ → List (ℕ × E) → X → Type 0} {fact : World E → Type 0} {most : ℕ} {s : State (Cell X E) (View E)}
+-- The pass id moves at the lock l: it knows p of it now, has these hands, open entries, turns and
+-- steps, and the lock comes to `lock`
+module _ {X E : Type 0} {stands : ℕ → List (ℕ × E) → X → Type 0} {fact : Locks E → Type 0} {most : ℕ} {s : State (Cell X E) (View E)}
     (r : Turning stands fact most s)
     (id l : ℕ) (h : Here r id l) (p : Part E) (hs : List (List ℕ)) (op : List (ℕ × ℕ × E)) (turns steps : ℕ) (lock : Lock E) where
   abbrev after : View E
@@ -162,8 +166,9 @@ module _ {X E : Type 0} {stands : ℕ → List (ℕ × E) → X → Type 0} {fac
   each_part : (P : ℕ → Part E → Type 0) → P l p → ((k : ℕ) → k ≢ l → P k (part (r.passes id) k)) → (k : ℕ) → P k (part after k)
   each_part = each_set (r.passes id).parts l p (λ _. blank) (let n = h.own.parts in let near = h.near in omega arith)
 
-  -- The word i, which belongs to the lock l, becomes m; only the home of l may change, and the world comes to u
-  pub moved : (i m : ℕ) (homes' : List (maybe.Option (Cell X E))) (u : World E) → length hs ≡ r.many → (r.passes id).turns ≤ turns → turns ≤ 2 ^ 43
+  -- The word i, which belongs to the lock l, becomes m; only the home of l may change, and the
+  -- world comes to u
+  pub moved : (i m : ℕ) (homes' : List (maybe.Option (Cell X E))) (u : Locks E) → length hs ≡ r.many → (r.passes id).turns ≤ turns → turns ≤ 2 ^ 43
       → (l ≡ 0 → p.holds ≡ false → op ≡ []) → (l ≢ 0 → (part (r.passes id) 0).holds ≡ false → op ≡ [])
       → ((k q : ℕ) → k < r.many → k ≢ l → q < 4 → (k ≢ i) × (r.many + k ≢ i) × (2 * r.many + (4 * k + q) ≢ i))
       → length homes' ≡ length s.homes → ((k : ℕ) → k ≢ l → get_elem? homes' k ≡ get_elem? s.homes k)
@@ -177,7 +182,7 @@ module _ {X E : Type 0} {stands : ℕ → List (ℕ × E) → X → Type 0} {fac
       let sized = r.sized in
       let word : (k : ℕ) → k ≢ i → get_or (set s.words i m) k 0 ≡ get_or s.words k 0 = λ k n. get_or-set_other s.words i k m 0 n in
       let sums : turns_of (set s.views id after) + v.turns ≡ turns_of s.views + turns = sum_set (λ u. u.turns) s.views id v after h.at in
-      let was : World E = world_of r.locks r.passes in
+      let was : Locks E = world_of r.locks r.passes in
       let old : ℕ → List (ℕ × ℕ) = was.swept id in
       let swept_now : Path (ℕ → List (ℕ × ℕ)) (at_place old l p.swept) (λ k. (part after k).swept) = λ t k.
       each_part (λ k q. at_place old l p.swept k ≡ q.swept) (place_here old l l p.swept refl) (λ k n. place_else old l k p.swept n) k t in

@@ -1,4 +1,5 @@
--- The steps of a pass keep the rule: a ticket that is drawn, a look whether it is served, passing a lock on, a mark, and a sweep.
+-- The steps of a pass keep the rule: a ticket that is drawn, a look whether it is served, passing a
+-- lock on, a mark, and a sweep.
 use Rattle.std.proofs.Common.{◌≡◌, ℕ, ◌+◌, ◌*◌, ◌/◌, ◌%◌, ◌^◌, ◌<◌, ◌≤◌, ◌≢◌, ◌==◌, true, false, cond, List, [], ◌∷◌, ◌++◌, length, get_or, set, subst, sym, refl, ap, ap₂, ◌∙◌, arith, length-append, length-set, get_or-set_other}
 use Rattle.std.specs.Prelude.{Option, Some, None}
 use Rattle.std.specs.Int.Bits.{bit_or}
@@ -14,21 +15,23 @@ use lib.ListN.{get_elem?}
 use Rattle.atomic_table.specs.Table.{State, Me, Act, Valid, carried_after, rest, step, keeps, takes, gives, stepped, Allows}
 use Rattle.atomic_table.proofs.Lists.{set_here, set_else, set_again}
 use Rattle.kd_turn.specs.declared.views.Cell.{Cell}
+use Rattle.kd_model.proofs.Truth.{not_true}
 use Rattle.kd_hands.specs.declared.views.Part.{Part}
 use Rattle.kd_hands.specs.declared.views.View.{View}
 use Rattle.kd_hands.specs.Views.{part, hand, drawn, holding, part_passed, passed_on, marked, cleared}
-use Rattle.kd_hands.specs.Lists.{made_by, has, without, at_place, is_at}
-use Rattle.kd_hands.specs.World.{World, taken, entered, marked_in, swept_in, hands_after}
+use Rattle.kd_hands.specs.Lists.{made_by, hand_has, hand_without, at_place, is_at}
+use Rattle.kd_hands.specs.Locks.{Locks, taken, entered, marked_in, swept_in, hands_after}
 use Rattle.kd_turn.specs.Rule.{Lock, opened_by, world_of, SeatOk, Turning}
 use Rattle.kd_turn.specs.Told.{Gains, drew, looked, passed, sets_mark, swept_up}
 use Rattle.kd_hands.specs.Fits.{Owes}
 use Rattle.kd_hands.proofs.Entries.{prefix_more, made_other, made_mine, opened_zero, opened_off, own_hand}
-use Rattle.kd_hands.proofs.Places.{some_same, every, place_here, place_else, place_same, both_same, zero_same, zero_or_not, true_or_not, not_both, nobody_at, is_at_some, is_at_not, is_some_or_not}
+use Rattle.kd_hands.proofs.Places.{some_same, every, place_here, place_else, place_same, both_same, zero_same, zero_or_not, not_both, nobody_at, is_at_some, is_at_not, is_some_or_not}
 use Rattle.kd_turn.proofs.Moved.{known, Here, at_pass, below, alone, fits_of, still_open, moved}
 use Rattle.kd_hands.proofs.Lists.{tabled_at}
 use Rattle.kd_hands.proofs.Hands.{same_power}
 
--- what a seat knows of a lock stays where its list stays, no ticket is drawn anew, and the seat holds it as before
+-- what a seat knows of a lock stays where its list stays, no ticket is drawn anew, and the seat
+-- holds it as before
 seat_on : {E : Type 0} (M : Lock E) (n : ℕ) (drawer : ℕ → ℕ) (holder : Option ℕ) (marks : ℕ → ℕ) (j : ℕ) (p : Part E) → M.next ≤ n
     → ((k : ℕ) → k < M.next → drawer k ≡ M.drawer k)
     → is_at j M.holder ≡ is_at j holder → SeatOk M j p → SeatOk (record M { next = n; drawer = drawer; holder = holder; marks = marks }) j p
@@ -38,15 +41,17 @@ seat_on M n drawer holder marks j p more same held q =
     let holds = q.holds ∙ held in
     search (q.here, q)
 
-module _ {X E : Type 0} (stands : ℕ → List (ℕ × E) → X → Type 0) (fact : World E → Type 0) (most : ℕ) where
+module _ {X E : Type 0} (stands : ℕ → List (ℕ × E) → X → Type 0) (fact : Locks E → Type 0) (most : ℕ) where
   abbrev Rule : State (Cell X E) (View E) → Type 0
   Rule = Turning stands fact most
 
-  -- the word i becomes m, and the seat id, with these slots, finds a view and an act that keep the rule
+  -- the word i becomes m, and the seat id, with these slots, finds a view and an act that keep the
+  -- rule
   abbrev Goes : State (Cell X E) (View E) → ℕ → ℕ → ℕ → List (ℕ × Cell X E) → (Me (Cell X E) (View E) → Type 0) → Type 0
   Goes s id i m c then = (w : View E) × (a : Act (Cell X E)) × Valid s.homes c a × Rule (stepped s i m id c w a) × then (w, carried_after c a)
 
-  -- a step may be made of which the pass shows P, if it can be made where the pass knows what the rule has of it
+  -- a step may be made of which the pass shows P, if it can be made where the pass knows what the
+  -- rule has of it
   allow : (slots id l i : ℕ) (me : Me (Cell X E) (View E)) (f : ℕ → ℕ) (then : View E → ℕ → Me (Cell X E) (View E) → Type 0) (P : View E → Type 0) → l < slots
       → me.0.live ≡ true → P me.0
       → ((s : State (Cell X E) (View E)) (r : Rule s) → P (known r id) → Here r id l → r.many ≡ slots
@@ -67,7 +72,7 @@ module _ {X E : Type 0} (stands : ℕ → List (ℕ × E) → X → Type 0) (fac
       let x : ℕ = get_or s.words l 0 in
       let M : Lock E = r.locks l in
       let is : (x + 1) % 2 ^ 64 ≡ x + 1 = mod-eq_of_lt (omega arith) in
-      let was : World E = world_of r.locks r.passes in
+      let was : Locks E = world_of r.locks r.passes in
       let holder = zero_same (λ k. (r.locks k).holder) l in
       let lock : Lock E = record M { next = M.next + 1; drawer = at_place M.drawer M.next id } in
       let kept = moved r id l h (record (part v l) { ticket = Some x }) v.hands v.opened (v.turns + 1) v.steps lock l ((x + 1) % 2 ^ 64) s.homes
@@ -81,9 +86,10 @@ module _ {X E : Type 0} (stands : ℕ → List (ℕ × E) → X → Type 0) (fac
       r.tied in
       (drawn l x v, keeps, tt, kept.0, refl))
 
-  -- the law that a look owes: the fact stays where a pass takes the lock l, and lock 0 only where it has swept nothing
+  -- the law that a look owes: the fact stays where a pass takes the lock l, and lock 0 only where
+  -- it has swept nothing
   abbrev Takes : ℕ → Type 0
-  Takes l = (w : World E) (j : ℕ) → (l ≡ 0 → (k : ℕ) → w.swept j k ≡ []) → fact w → fact (taken l j w)
+  Takes l = (w : Locks E) (j : ℕ) → (l ≡ 0 → (k : ℕ) → w.swept j k ≡ []) → fact w → fact (taken l j w)
 
   -- a look at a ticket that is not the pass's leaves all as it was
   misses : (slots id l i n : ℕ) (me : Me (Cell X E) (View E)) (s : State (Cell X E) (View E)) → Rule s → n ≡ get_or s.words i 0 → i ≡ slots + l
@@ -115,7 +121,7 @@ module _ {X E : Type 0} (stands : ℕ → List (ℕ × E) → X → Type 0) (fac
       let words : (k : ℕ) → get_or (set s.words i n) k 0 ≡ get_or s.words k 0 =
       λ k. ap (λ (ws : List ℕ). get_or ws k 0) (ap (set s.words i) found ∙ set-get_or s.words i 0) in
       let bare : (k : ℕ) → (part v k).holds ≡ false → (part v k).swept ≡ [] = λ k. (r.each_seat id k).unswept in
-      let was : World E = world_of r.locks r.passes in
+      let was : Locks E = world_of r.locks r.passes in
       let ops : ℕ → List (ℕ × ℕ × E) = at_place (λ j. (r.passes j).opened) id v.opened in
       let ops_id : l ≡ 0 → ops id ≡ [] = λ z. place_here (λ j. (r.passes j).opened) id id v.opened refl ∙ h.own.shut (unheld 0 (omega arith)) in
       let opened : was.told.opened ≡ cond (l == 0) (ops id) (opened_by (r.locks 0).holder ops) = still_open r id l
@@ -172,7 +178,7 @@ module _ {X E : Type 0} (stands : ℕ → List (ℕ × E) → X → Type 0) (fac
       let mine : made_by id more ≡ (part v l).own ++ (v.name, e) ∷ [] = made_mine id id e M.list refl ∙ (λ t. old.mine t ++ (sym name t, e) ∷ []) in
       let w : View E = passed_on after l e v in
       let new_hand : ℕ → List ℕ = after l e (hand v) in
-      let was : World E = world_of r.locks r.passes in
+      let was : Locks E = world_of r.locks r.passes in
       let full : (k : ℕ) → length v.hands ≤ k → new_hand k ≡ [] = λ k le. let all =
       h.own.hands in own_hand hand_after empties l e (hand v) k (λ z. omega arith) (get_or_past v.hands k [] le) in
       let hand_now : Path (ℕ → List ℕ) new_hand (λ k. get_or w.hands k []) = λ t k. sym (tabled_at (length v.hands) new_hand full k) t in
@@ -187,7 +193,7 @@ module _ {X E : Type 0} (stands : ℕ → List (ℕ × E) → X → Type 0) (fac
       (λ k q kn ne qt. search arith) (length-set s.homes l (some y)) (λ k ne. set_else s.homes l k (some y) ne)
       record { begins = begins; mine = mine; waits = λ m t. absurd cc; here = λ f. absurd cc; holds = refl; unswept = λ _. refl }
       (λ j ne q.
-      let idle = true_or_not (part (r.passes j) l).holds (λ t. ne (alone r id l j here.0 t)) in
+      let idle = not_true (part (r.passes j) l).holds (λ t. ne (alone r id l j here.0 t)) in
       let apart : (m : ℕ) → M.drawer m ≡ j → m ≢ length M.list = λ m d z. ne (sym d ∙ (ap M.drawer z ∙ due.2)) in
       let waits : (m : ℕ) → (part (r.passes j) l).ticket ≡ Some m → (length more ≤ m) × (m < M.next) × (M.drawer m ≡ j) = λ m t.
       let f = q.waits m t in let ne = apart m f.2 in (omega arith, f.1, f.2) in
@@ -201,7 +207,8 @@ module _ {X E : Type 0} (stands : ℕ → List (ℕ × E) → X → Type 0) (fac
       let entry : List (ℕ × Cell X E) → Option E = λ q. (get_or q 0 (l, y)).1.entry in
       (w, gives, tt, kept.0, (λ l' y' e' c' is' on as_e t. (passed_on after (same l' is' t) (some_same e e' (ap entry on ∙ as_e) t) v, ap rest on t)))))
 
-  -- The mark word q of the lock l, which is the word i, becomes m; the pass has these hands and steps now, and has swept these words
+  -- The mark word q of the lock l, which is the word i, becomes m; the pass has these hands and
+  -- steps now, and has swept these words
   remarks : (id l q i m : ℕ) (s : State (Cell X E) (View E)) (r : Rule s) → Here r id l → q < 4 → i ≡ 2 * r.many + (4 * l + q)
       → (words : List (ℕ × ℕ)) (hs : List (List ℕ)) (steps : ℕ) (hands : ℕ → ℕ → List ℕ) (swept : ℕ → ℕ → List (ℕ × ℕ)) → length hs ≡ r.many
       → ((part (known r id) l).holds ≡ false → words ≡ [])
@@ -230,18 +237,18 @@ module _ {X E : Type 0} (stands : ℕ → List (ℕ × E) → X → Type 0) (fac
       record { lists = place_same _ l; marks = refl; hands = hands_are; swept = swept_are; holder = holder; opened = still_open r id l } kept).0
 
   pub mark_allows : (slots id l n i b : ℕ) (me : Me (Cell X E) (View E)) → l < slots → n < 256 → i ≡ 2 * slots + (4 * l + n / 64) → b ≡ 2 ^ (n % 64)
-      → me.0.live ≡ true → has n (hand me.0 l) ≡ true
-      → ((w : World E) (j : ℕ) → has n (w.hands j l) ≡ true → fact w → fact (marked_in l n j w))
+      → me.0.live ≡ true → hand_has n (hand me.0 l) ≡ true
+      → ((w : Locks E) (j : ℕ) → hand_has n (w.hands j l) ≡ true → fact w → fact (marked_in l n j w))
       → Allows Rule slots id me i (λ x. bit_or x b) (sets_mark (step slots i b 0 none) me)
   mark_allows slots id l n i b me lt small place bit live in_hand law =
       allow slots id l i me (λ x. bit_or x b) (λ v. sets_mark (step slots i b 0 none) (v, me.1))
-      (λ v. has n (hand v l) ≡ true) lt live in_hand (λ s r in_hand h many.
+      (λ v. hand_has n (hand v l) ≡ true) lt live in_hand (λ s r in_hand h many.
       let v : View E = known r id in
       let x : ℕ = get_or s.words i 0 in
       let q : ℕ = n / 64 in
       let is : x ≡ (r.locks l).marks q = ap (λ (k : ℕ). get_or s.words k 0) (omega arith) ∙ h.ok.marks q (omega arith) in
-      let old : World E = world_of r.locks r.passes in
-      let left : List ℕ = without n (hand v l) in
+      let old : Locks E = world_of r.locks r.passes in
+      let left : List ℕ = hand_without n (hand v l) in
       let hs : List (List ℕ) = set v.hands l left in
       let mine : ℕ → List ℕ = at_place (old.hands id) l left in
       let hand_now : Path (ℕ → List ℕ) mine (λ k. get_or hs k []) = λ t k. every (λ k x. x ≡ get_or hs k []) (old.hands id) l left
@@ -258,7 +265,7 @@ module _ {X E : Type 0} (stands : ℕ → List (ℕ × E) → X → Type 0) (fac
 
   pub sweep_allows : (slots id l q i : ℕ) (me : Me (Cell X E) (View E)) → l < slots → q < 4 → i ≡ 2 * slots + (4 * l + q) → me.0.live ≡ true
       → (part me.0 l).holds ≡ true
-      → ((w : World E) (j : ℕ) → fact w → fact (swept_in l q j w))
+      → ((w : Locks E) (j : ℕ) → fact w → fact (swept_in l q j w))
       → Allows Rule slots id me i (λ x. 0) (swept_up (step slots i 0 0 none) me)
   sweep_allows slots id l q i me lt qt place live held law =
       allow slots id l i me (λ x. 0) (λ v. swept_up (step slots i 0 0 none) (v, me.1)) (λ v. (part v l).holds ≡ true) lt live held
@@ -266,7 +273,7 @@ module _ {X E : Type 0} (stands : ℕ → List (ℕ × E) → X → Type 0) (fac
       let v : View E = known r id in
       let x : ℕ = get_or s.words i 0 in
       let is : x ≡ (r.locks l).marks q = ap (λ (k : ℕ). get_or s.words k 0) (omega arith) ∙ h.ok.marks q qt in
-      let old : World E = world_of r.locks r.passes in
+      let old : Locks E = world_of r.locks r.passes in
       let words : ℕ → List (ℕ × ℕ) = λ z. (part v l).swept ++ (q, z) ∷ [] in
       let swept : ℕ → ℕ → ℕ → List (ℕ × ℕ) = λ z. at_place old.swept id (at_place (old.swept id) l (words z)) in
       let unheld : (part v l).holds ≡ false → words x ≡ [] = λ f. absurd (not_both (part v l).holds held f) in

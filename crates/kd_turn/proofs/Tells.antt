@@ -18,7 +18,7 @@ use Rattle.kd_turn.specs.Rule.{hollow}
 use Rattle.kd_turn.specs.Told.{Passed}
 use Rattle.kd_turn.specs.Seated.{IsSeated}
 use Rattle.kd_hands.proofs.Entries.{own_hand}
-use Rattle.kd_hands.specs.World.{hands_after}
+use Rattle.kd_hands.specs.Locks.{hands_after}
 
 -- a pass holds only what it has a part of
 pub within : {E : Type 0} (v : View E) (l : ℕ) → (part v l).holds ≡ true → l < length v.parts

@@ -1,5 +1,5 @@
--- The rule of the turns. A gate of n locks has 6 n words: word l is the next ticket of the lock l, word n + l the ticket that is served, and the words
--- from 2 n + 4 l on are its four mark words.
+-- The rule of the turns. A gate of n locks has 6 n words: word l is the next ticket of the lock l,
+-- word n + l the ticket that is served, and the words from 2 n + 4 l on are its four mark words.
 use Rattle.std.specs.Prelude.{◌≡◌, ℕ, ◌+◌, ◌*◌, ◌^◌, ◌<◌, ◌≤◌, ◌==◌, Bool, true, false, cond, List, [], length, slice_index_or, Option, Some, None}
 use Rattle.std.specs.List.{All, sum_by}
 use mathlib.Core.Option.{some}
@@ -12,7 +12,7 @@ use Rattle.kd_hands.specs.declared.views.Part.{Part}
 use Rattle.kd_hands.specs.declared.views.View.{View}
 use Rattle.kd_hands.specs.Lists.{made_by, is_at}
 use Rattle.kd_hands.specs.Views.{blank, part, hand, opening_view, spent}
-use Rattle.kd_hands.specs.World.{World}
+use Rattle.kd_hands.specs.Locks.{Locks}
 
 -- the slot of a free lock with this value before any turn
 abbrev pub cell_of : {X E : Type 0} → X → Cell X E
@@ -22,7 +22,8 @@ cell_of x = record { value = Some x; entry = None }
 abbrev pub hollow : {X E : Type 0} → Cell X E
 hollow = record { value = None; entry = None }
 
--- what one lock has come to: its list, its next ticket and who drew each one, the pass that holds it, and its mark words
+-- what one lock has come to: its list, its next ticket and who drew each one, the pass that holds
+-- it, and its mark words
 pub record Lock (E : Type 0) : Type 0 where
   pub list : List (ℕ × E)
   pub next : ℕ
@@ -31,7 +32,8 @@ pub record Lock (E : Type 0) : Type 0 where
   pub marks : ℕ → ℕ
 
 module _ {E : Type 0} where
-  -- what is shown of what the pass j knows, where there are so many passes yet: the last has their count
+  -- what is shown of what the pass j knows, where there are so many passes yet: the last has their
+  -- count
   abbrev pub shows : ℕ → ℕ → View E → View E
   shows count j v = record v { made = cond (j + 1 == count) count 0 }
 
@@ -45,9 +47,12 @@ module _ {E : Type 0} where
   opened_by (Some j) opened = opened j
 
   -- the world where the locks have come to this, and the passes know this
-  abbrev pub world_of : (ℕ → Lock E) → (ℕ → View E) → World E
+  abbrev pub world_of : (ℕ → Lock E) → (ℕ → View E) → Locks E
   world_of locks passes = record {
-    told = record { lists = λ l. (locks l).list; opened = opened_by (locks 0).holder (λ j. (passes j).opened) };
+    told = record {
+      lists = λ l. (locks l).list;
+      opened = opened_by (locks 0).holder (λ j. (passes j).opened);
+    };
     holder = (locks 0).holder;
     hands = λ j l. hand (passes j) l;
     marks = λ l. (locks l).marks;
@@ -74,7 +79,8 @@ pub record IsPass {E : Type 0} (n j : ℕ) (v : View E) : Type 0 where
 pub record SeatOk {E : Type 0} (lock : Lock E) (j : ℕ) (p : Part E) : Type 0 where
   pub begins : IsPrefix p.seen lock.list
   pub mine : made_by j lock.list ≡ p.own
-  pub waits : (n : ℕ) → p.ticket ≡ Some n → (length lock.list ≤ n) × (n < lock.next) × (lock.drawer n ≡ j)
+  pub waits :
+      (n : ℕ) → p.ticket ≡ Some n → (length lock.list ≤ n) × (n < lock.next) × (lock.drawer n ≡ j)
   pub here : p.holds ≡ true → (p.ticket ≡ Some (length lock.list)) × (p.seen ≡ lock.list)
   pub holds : p.holds ≡ is_at j lock.holder
   -- a pass sweeps only what it holds
@@ -82,15 +88,20 @@ pub record SeatOk {E : Type 0} (lock : Lock E) (j : ℕ) (p : Part E) : Type 0 w
 
 -- a pass that another has taken in: it is retired, held nothing, and knows what it knew
 abbrev pub IsBack : {E : Type 0} → (ℕ → Bool) → (ℕ → View E) → ℕ × List (Part E) → Type 0
-IsBack retired passes b = (retired b.0 ≡ true) × ((passes b.0).parts ≡ b.1) × ((l : ℕ) → (slice_index_or b.1 l blank).holds ≡ false)
+IsBack retired passes b =
+    (retired b.0 ≡ true) × ((passes b.0).parts ≡ b.1)
+    × ((l : ℕ) → (slice_index_or b.1 l blank).holds ≡ false)
 
 module _ {X E : Type 0} (stands : ℕ → List (ℕ × E) → X → Type 0) where
   -- a cell with a value for the list is at home
   abbrev pub IsHome : ℕ → List (ℕ × E) → List (maybe.Option (Cell X E)) → Type 0
-  IsHome l list homes = (y : Cell X E) × (get_elem? homes l ≡ some (some y)) × (x : X) × (y.value ≡ Some x) × stands l list x
+  IsHome l list homes =
+      (y : Cell X E) × (get_elem? homes l ≡ some (some y)) × (x : X) × (y.value ≡ Some x)
+      × stands l list x
 
   -- what the rule says of the lock l, one of n, where so many turns were taken
-  pub record LockOk (n turns : ℕ) (words : List ℕ) (homes : List (maybe.Option (Cell X E))) (l : ℕ) (lock : Lock E) : Type 0 where
+  pub record LockOk (n turns : ℕ) (words : List ℕ) (homes : List (maybe.Option (Cell X E))) (l : ℕ)
+      (lock : Lock E) : Type 0 where
     pub draws : slice_index_or words l 0 ≡ lock.next
     pub serves : slice_index_or words (n + l) 0 ≡ length lock.list
     pub marks : (q : ℕ) → q < 4 → slice_index_or words (2 * n + (4 * l + q)) 0 ≡ lock.marks q
@@ -99,7 +110,7 @@ module _ {X E : Type 0} (stands : ℕ → List (ℕ × E) → X → Type 0) wher
     pub home : lock.holder ≡ None → IsHome l lock.list homes
 
   -- Whatever step is made, this holds again. `most` is the number of passes that are ever made
-  module _ (fact : World E → Type 0) where
+  module _ (fact : Locks E → Type 0) where
     pub record Turning (most : ℕ) (s : State (Cell X E) (View E)) : Type 0 where
       pub locks : ℕ → Lock E
       -- what each pass knows, also one that was taken in, and one that was not made yet
@@ -108,9 +119,13 @@ module _ {X E : Type 0} (stands : ℕ → List (ℕ × E) → X → Type 0) wher
       pub many : ℕ
       pub count : ℕ
       pub sized : IsSized many count most s
-      pub shown : (j : ℕ) → slice_index_or s.views j (opening_view many j) ≡ cond (retired j) spent (shows count j (passes j))
+      pub shown :
+          (j : ℕ)
+          → slice_index_or s.views j (opening_view many j)
+          ≡ cond (retired j) spent (shows count j (passes j))
       pub each_pass : (j : ℕ) → IsPass many j (passes j)
       pub each_seat : (j l : ℕ) → SeatOk (locks l) j (part (passes j) l)
-      pub each_lock : (l : ℕ) → l < many → LockOk many (turns_of s.views) s.words s.homes l (locks l)
+      pub each_lock :
+          (l : ℕ) → l < many → LockOk many (turns_of s.views) s.words s.homes l (locks l)
       pub back : (j : ℕ) → All (IsBack retired passes) (passes j).back
       pub tied : fact (world_of locks passes)

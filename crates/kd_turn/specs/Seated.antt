@@ -7,7 +7,8 @@ use Rattle.kd_hands.specs.declared.views.View.{View}
 use Rattle.kd_hands.specs.Views.{part}
 use Rattle.kd_turn.specs.Rule.{hollow}
 
--- it knows its turns at run time and each of the locks, was not taken in, and carries a hollow cell for each lock that it holds
+-- it knows its turns at run time and each of the locks, was not taken in, and carries a hollow cell
+-- for each lock that it holds
 pub record IsSeated {X E : Type 0} (turns locks : ℕ) (m : Me (Cell X E) (View E)) : Type 0 where
   pub counted : turns ≡ m.0.turns
   pub parts : length m.0.parts ≡ locks

@@ -9,7 +9,8 @@ pub record GateSight : Type 0 where
   pub locks : ℕ
   pub passes : ℕ
 
--- of which gate it is a pass, what it knows, and the locks that it holds, the one taken last before the others
+-- of which gate it is a pass, what it knows, and the locks that it holds, the one taken last before
+-- the others
 pub record Sight (E : Type 0) : Type 0 where
   pub gate : TableId
   pub view : View E

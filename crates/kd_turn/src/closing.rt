@@ -5,7 +5,7 @@ ghost use mathlib.Core.Option.{some};
 ghost use lib.ListN.{get_elem?};
 ghost use Rattle.kd_turn.specs.Sight.{Sight};
 ghost use Rattle.kd_turn.specs.Told.{Ended, Gathered, IsIdle};
-ghost use Rattle.kd_hands.specs.World.{Fact};
+ghost use Rattle.kd_hands.specs.Locks.{Fact};
 
 use crate::gate::{Board, Gate, SeatOf};
 use crate::pass::Pass;
@@ -43,9 +43,11 @@ fn emptied<T, E: Drop>(
 ) -> Vec<T>
     requires room { (values.items ≡ []) × (locks ≤ vec_capacity values) }
     requires full { IsFull closed.slots × (slots_len closed.slots ≡ locks) }
-    requires values { (l : ℕ) (y : Cell T E) → get_elem? (slots_items closed.slots) l ≡ some y → (x : T) × (y.value ≡ Some x) }
+    requires values { (l : ℕ) (y : Cell T E) → get_elem? (slots_items closed.slots) l ≡ some y
+        → (x : T) × (y.value ≡ Some x) }
     ensures count { length result.items ≡ locks }
-    ensures values { (l : ℕ) (x : T) → get_elem? result.items l ≡ some x → (y : Cell T E) × (get_elem? (slots_items closed.slots) l ≡ some y) × (y.value ≡ Some x) }
+    ensures values { (l : ℕ) (x : T) → get_elem? result.items l ≡ some x
+        → (y : Cell T E) × (get_elem? (slots_items closed.slots) l ≡ some y) × (y.value ≡ Some x) }
 {
     'emptying: for lock in 0..locks {
         let Cell { value, entry: _ } = closed.take(lock as usize);
@@ -66,7 +68,9 @@ impl<T: Standing> Gate<T> {
         requires idle { All (λ p. p.held ≡ []) passes.items }
         requires all { (j : ℕ) → j < self.passes → Any (λ p. p.view.name ≡ j) passes.items }
         ensures count { IfOk result (λ values. length values.items ≡ self.locks) }
-        ensures ended { IfOk result (λ values. Ended T.stands (Fact T.tie T.lends T.out T.keeper) self.passes (map (λ p. p.view) passes.items) values.items) }
+        ensures ended { IfOk result (λ values.
+            Ended T.stands (Fact T.tie T.lends T.out T.keeper) self.passes
+            (map (λ p. p.view) passes.items) values.items) }
         ensures untouched { IfErr result (λ e. (e.0 ≡ self) × (e.1.items ≡ passes.items)) }
     {
         let Ok(values) = Vec::with_capacity(alloc, self.locks as usize) else {

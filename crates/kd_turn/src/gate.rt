@@ -31,7 +31,7 @@ impl<T: Standing> TableRule<Cell<T, T::Entry>, View<T::Entry>, Size> for Turns<T
     ghost use Rattle.std.specs.Prelude.{◌*◌};
     ghost use Rattle.kd_turn.specs.Rule.{Turning};
     ghost use Rattle.kd_hands.specs.Views.{last_view};
-    ghost use Rattle.kd_hands.specs.World.{Fact};
+    ghost use Rattle.kd_hands.specs.Locks.{Fact};
 
     ghost holds = { λ size. Turning T.stands (Fact T.tie T.lends T.out T.keeper) size.passes };
 
@@ -62,9 +62,16 @@ impl<T: Standing> Model for Gate<T> {
 
     ghost Value = { GateSight };
 
-    ghost view = { λ g. record { id = g.table.shared.table_id; locks = g.locks; passes = g.table.shared.key.passes } };
+    ghost view = { λ g.
+        record {
+          id = g.table.shared.table_id;
+          locks = g.locks;
+          passes = g.table.shared.key.passes;
+        } };
 
-    ghost invariant = { λ g. (g.table.shared.table_id.words ≡ 6 * g.locks) × (g.table.shared.table_id.slots ≡ g.locks) × (0 < g.locks) × (0 < g.table.shared.key.passes) };
+    ghost invariant = { λ g.
+        (g.table.shared.table_id.words ≡ 6 * g.locks) × (g.table.shared.table_id.slots ≡ g.locks)
+        × (0 < g.locks) × (0 < g.table.shared.key.passes) };
 }
 
 /// A cell for each value.
@@ -84,8 +91,10 @@ fn cells_of<X: Drop, E: Drop>(alloc: Global, values: Vec<X>) -> Result<Vec<Cell<
 /// The pass of a seat that has seen nothing.
 #[tactic(auto, using(kd_hands::proofs::Lists::all_alike))]
 fn pass_of<T: Standing>(seat: SeatOf<T>) -> Pass<T>
-    requires { seat.me ≡ (record (opening_view seat.table_id.slots seat.me.0.name) { made = seat.me.0.made }, []) }
-    ensures { (result.gate ≡ seat.table_id) × (result.held ≡ []) × IsFresh seat.me.0.name result.view }
+    requires { seat.me
+        ≡ (record (opening_view seat.table_id.slots seat.me.0.name) { made = seat.me.0.made }, []) }
+    ensures { (result.gate ≡ seat.table_id) × (result.held ≡ [])
+        × IsFresh seat.me.0.name result.view }
 {
     Pass { seat, turns: 0 }
 }
@@ -99,7 +108,8 @@ fn spread<T: Standing>(
 ) -> Vec<Pass<T>>
     requires room { (all.items ≡ []) × (passes ≤ vec_capacity all) }
     requires passes { (0 < passes) × (passes ≡ gate.now.passes) }
-    requires seat { (seat.table_id ≡ gate.now.id) × (seat.me ≡ (last_view seat.table_id.slots 0, [])) }
+    requires seat { (seat.table_id ≡ gate.now.id)
+        × (seat.me ≡ (last_view seat.table_id.slots 0, [])) }
     ensures count { length result.items ≡ passes }
     ensures fresh { AreFresh gate.now.id result.items }
 {
@@ -114,7 +124,8 @@ fn spread<T: Standing>(
 }
 
 impl<T: Standing + Drop> Gate<T> {
-    /// One lock for each value, and passes numbered from 0 on. A gate has no more locks than a `u32` counts: for more there is no memory.
+    /// One lock for each value, and passes numbered from 0 on. A gate has no more locks than a
+    /// `u32` counts: for more there is no memory.
     pub fn make(
         alloc: Global,
         values: Vec<T>,
@@ -125,9 +136,12 @@ impl<T: Standing + Drop> Gate<T> {
         requires stands { (l : ℕ) (x : T) → get_elem? values.items l ≡ some x → T.stands l [] x }
         requires tie { T.tie (record { lists = λ _. []; opened = [] }) }
         requires none_out { (l n : ℕ) → T.out l [] n → ⊥ }
-        ensures gate { IfOk result (λ r. (r.0.locks ≡ length values.items) × (r.0.passes ≡ passes)) }
+        ensures gate { IfOk result
+            (λ r. (r.0.locks ≡ length values.items) × (r.0.passes ≡ passes)) }
         ensures count { IfOk result (λ r. length r.1.items ≡ passes) }
-        ensures fresh { IfOk result (λ r. (k : ℕ) (s : Sight T.Entry) → get_elem? r.1.items k ≡ some s → (s.gate ≡ r.0.id) × (s.held ≡ []) × IsFresh k s.view) }
+        ensures fresh { IfOk result (λ r.
+            (k : ℕ) (s : Sight T.Entry) → get_elem? r.1.items k ≡ some s
+            → (s.gate ≡ r.0.id) × (s.held ≡ []) × IsFresh k s.view) }
     {
         let Ok(locks) = u32::try_from(values.len()) else {
             return Err(AllocError);

@@ -1,12 +1,13 @@
-//! A pass, and what a thread does with it: take a turn, put the value back, mark a number, sweep the marks.
+//! A pass, and what a thread does with it: take a turn, put the value back, mark a number, sweep
+//! the marks.
 ghost use Rattle.std.specs.Prelude.{◌≡◌, ℕ, ◌+◌, ◌*◌, ◌/◌, ◌^◌, ◌<◌, ◌≤◌, List, [], ◌∷◌, ◌++◌, true, false, None, Some, IfSome, length};
 ghost use Rattle.kd_hands.specs.Views.{part, hand, cleared, drawn, marked, passed_on};
 ghost use Rattle.kd_turn.specs.Rule.{hollow};
-ghost use Rattle.kd_hands.specs.Lists.{has};
+ghost use Rattle.kd_hands.specs.Lists.{hand_has};
 ghost use Rattle.atomic_table.specs.Table.{rest};
 ghost use Rattle.kd_turn.specs.Told.{DidSweep, Gained, Marked, Passed, Took};
 ghost use Rattle.kd_hands.specs.Fits.{Owes};
-ghost use Rattle.kd_hands.specs.World.{Fact, hands_after};
+ghost use Rattle.kd_hands.specs.Locks.{Fact, hands_after};
 
 use crate::gate::{Gate, SeatOf};
 use crate::plays::{Draw, Look, Mark, PassOn, Sweep};
@@ -16,7 +17,8 @@ use std::marker::Model;
 use std::sync::Wait;
 use std::{hint, thread};
 
-/// The right of one thread to take turns, and what it knows. It is moved into a thread, and shared by none.
+/// The right of one thread to take turns, and what it knows. It is moved into a thread, and shared
+/// by none.
 #[derive(Drop)]
 pub struct Pass<T: Standing> {
     pub(crate) seat: SeatOf<T>,
@@ -31,12 +33,14 @@ impl<T: Standing> Model for Pass<T> {
 
     ghost use Rattle.kd_turn.specs.Seated.{IsSeated};
 
-    ghost view = { λ p. record { gate = p.seat.table_id; view = p.seat.me.0; held = map (λ x. x.0) p.seat.me.1 } };
+    ghost view = { λ p.
+        record { gate = p.seat.table_id; view = p.seat.me.0; held = map (λ x. x.0) p.seat.me.1 } };
 
     ghost invariant = { λ p. IsSeated p.turns p.seat.table_id.slots p.seat.me };
 }
 
-/// How often a pass looks at the ticket that is served before it leaves the processor to others. A turn is short: most come within so many looks.
+/// How often a pass looks at the ticket that is served before it leaves the processor to others. A
+/// turn is short: most come within so many looks.
 const LOOKS: u32 = 100;
 
 /// Waits a moment before the next look, and answers how many looks are left.
@@ -72,7 +76,9 @@ fn look<T: Standing>(gate: &Gate<T>, seat: &mut SeatOf<T>, lock: u32, ticket: u6
     requires free { (k : ℕ) → lock ≤ k → (part seat.old.me.0 k).holds ≡ false }
     requires ticket { (part seat.old.me.0 lock).ticket ≡ Some ticket }
     ensures gate { seat.new.table_id ≡ seat.old.table_id }
-    ensures gained { IfSome result (λ x. Gained T.stands (Fact T.tie T.lends T.out T.keeper) lock x hollow seat.old.me seat.new.me) }
+    ensures gained { IfSome result (λ x.
+        Gained T.stands (Fact T.tie T.lends T.out T.keeper) lock x hollow seat.old.me
+        seat.new.me) }
     ensures missed { result ≡ None → seat.new.me ≡ seat.old.me }
 {
     let shared = &gate.table.shared;
@@ -88,16 +94,24 @@ fn look<T: Standing>(gate: &Gate<T>, seat: &mut SeatOf<T>, lock: u32, ticket: u6
     value
 }
 
-/// Lays the value and the entry into the slot of the lock that was taken last, and passes the lock on.
+/// Lays the value and the entry into the slot of the lock that was taken last, and passes the lock
+/// on.
 fn pass_on<T: Standing>(gate: &Gate<T>, seat: &mut SeatOf<T>, lock: u32, value: T, entry: T::Entry)
     requires gate { seat.old.table_id ≡ gate.now.id }
     requires lock { lock < gate.now.locks }
     requires live { seat.old.me.0.live ≡ true }
-    requires held { ((part seat.old.me.0 lock).holds ≡ true) × (seat.old.me.1 ≡ (lock, hollow) ∷ rest seat.old.me.1) }
-    requires stands { T.stands lock ((part seat.old.me.0 lock).seen ++ (seat.old.me.0.name, entry) ∷ []) value }
-    requires tie { Owes (Fact T.tie T.lends T.out T.keeper) (hands_after T.hand_after T.empties) seat.old.me.0 lock entry }
+    requires held { ((part seat.old.me.0 lock).holds ≡ true)
+        × (seat.old.me.1 ≡ (lock, hollow) ∷ rest seat.old.me.1) }
+    requires stands { T.stands lock
+        ((part seat.old.me.0 lock).seen ++ (seat.old.me.0.name, entry) ∷ []) value }
+    requires tie { Owes (Fact T.tie T.lends T.out T.keeper) (hands_after T.hand_after T.empties)
+        seat.old.me.0 lock entry }
     ensures gate { seat.new.table_id ≡ seat.old.table_id }
-    ensures passed { seat.new.me ≡ (passed_on (hands_after T.hand_after T.empties) lock entry seat.old.me.0, rest seat.old.me.1) }
+    ensures passed { seat.new.me
+        ≡ (
+          passed_on (hands_after T.hand_after T.empties) lock entry seat.old.me.0,
+          rest seat.old.me.1,
+        ) }
 {
     let shared = &gate.table.shared;
     let full = Cell {
@@ -114,7 +128,7 @@ fn set_mark<T: Standing>(gate: &Gate<T>, seat: &mut SeatOf<T>, lock: u32, number
     requires gate { seat.old.table_id ≡ gate.now.id }
     requires place { (lock < gate.now.locks) × (number < 256) }
     requires live { seat.old.me.0.live ≡ true }
-    requires in_hand { has number (hand seat.old.me.0 lock) ≡ true }
+    requires in_hand { hand_has number (hand seat.old.me.0 lock) ≡ true }
     ensures gate { seat.new.table_id ≡ seat.old.table_id }
     ensures set { seat.new.me ≡ (marked lock number seat.old.me.0, seat.old.me.1) }
 {
@@ -132,8 +146,12 @@ fn clear_word<T: Standing>(gate: &Gate<T>, seat: &mut SeatOf<T>, lock: u32, word
     requires live { seat.old.me.0.live ≡ true }
     requires wide { length seat.old.me.0.parts ≡ seat.old.table_id.slots }
     requires held { (part seat.old.me.0 lock).holds ≡ true }
-    ensures seat { (seat.new.table_id ≡ seat.old.table_id) × (seat.new.me ≡ (cleared lock (word, result) seat.old.me.0, seat.old.me.1)) }
-    ensures here { part seat.new.me.0 lock ≡ record (part seat.old.me.0 lock) { swept = (part seat.old.me.0 lock).swept ++ (word, result) ∷ [] } }
+    ensures seat { (seat.new.table_id ≡ seat.old.table_id)
+        × (seat.new.me ≡ (cleared lock (word, result) seat.old.me.0, seat.old.me.1)) }
+    ensures here { part seat.new.me.0 lock
+        ≡ record (part seat.old.me.0 lock) {
+          swept = (part seat.old.me.0 lock).swept ++ (word, result) ∷ [];
+        } }
 {
     let first = 2 * gate.locks as usize + 4 * lock as usize;
     gate.table.shared.swap::<Sweep>(seat, first + word, 0)
@@ -148,7 +166,8 @@ impl<T: Standing> Pass<T> {
         self.turns
     }
 
-    /// Waits for a turn on the lock, and takes the value. The pass holds no lock of this number or a greater one.
+    /// Waits for a turn on the lock, and takes the value. The pass holds no lock of this number or
+    /// a greater one.
     pub fn take<R: Wait>(&mut self, rt: &R, gate: &Gate<T>, lock: u32) -> T
         requires gate { self.old.gate ≡ gate.now.id }
         requires lock { lock < gate.now.locks }
@@ -156,7 +175,8 @@ impl<T: Standing> Pass<T> {
         requires turns { self.old.view.turns < 2 ^ 43 }
         ensures gate { self.new.gate ≡ self.old.gate }
         ensures held { self.new.held ≡ lock ∷ self.old.held }
-        ensures took { Took T.stands (Fact T.tie T.lends T.out T.keeper) lock self.old.view self.new.view result }
+        ensures took { Took T.stands (Fact T.tie T.lends T.out T.keeper) lock self.old.view
+            self.new.view result }
     {
         let ticket = draw(gate, &mut self.seat, lock);
         self.turns += 1;
@@ -170,26 +190,31 @@ impl<T: Standing> Pass<T> {
         unreachable!()
     }
 
-    /// Puts the value back and passes the lock on, with the entry of this turn. It is the lock that the pass took last.
+    /// Puts the value back and passes the lock on, with the entry of this turn. It is the lock that
+    /// the pass took last.
     pub fn put(&mut self, gate: &Gate<T>, lock: u32, value: T, entry: T::Entry)
         requires gate { self.old.gate ≡ gate.now.id }
         requires lock { lock < gate.now.locks }
         requires held { (before : List ℕ) × (self.old.held ≡ lock ∷ before) }
-        requires stands { T.stands lock ((part self.old.view lock).seen ++ (self.old.view.name, entry) ∷ []) value }
-        requires tie { Owes (Fact T.tie T.lends T.out T.keeper) (hands_after T.hand_after T.empties) self.old.view lock entry }
+        requires stands { T.stands lock
+            ((part self.old.view lock).seen ++ (self.old.view.name, entry) ∷ []) value }
+        requires tie { Owes (Fact T.tie T.lends T.out T.keeper) (hands_after T.hand_after T.empties)
+            self.old.view lock entry }
         ensures gate { self.new.gate ≡ self.old.gate }
         ensures held { self.old.held ≡ lock ∷ self.new.held }
-        ensures passed { Passed (hands_after T.hand_after T.empties) lock entry self.old.view self.new.view }
+        ensures passed { Passed (hands_after T.hand_after T.empties) lock entry self.old.view
+            self.new.view }
     {
         pass_on(gate, &mut self.seat, lock, value, entry);
     }
 
-    /// Marks a number of the pass's hand, in one step and without waiting. Number k is bit k mod 64 of word k / 64 of the lock's four.
+    /// Marks a number of the pass's hand, in one step and without waiting. Number k is bit k mod 64
+    /// of word k / 64 of the lock's four.
     pub fn mark(&mut self, gate: &Gate<T>, lock: u32, number: u32)
         requires gate { self.old.gate ≡ gate.now.id }
         requires lock { lock < gate.now.locks }
         requires number { number < 256 }
-        requires in_hand { has number (hand self.old.view lock) ≡ true }
+        requires in_hand { hand_has number (hand self.old.view lock) ≡ true }
         ensures gate { self.new.gate ≡ self.old.gate }
         ensures held { self.new.held ≡ self.old.held }
         ensures marked { Marked lock number self.old.view self.new.view }

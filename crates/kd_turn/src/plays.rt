@@ -1,7 +1,7 @@
 //! What each step on a word tells the pass that makes it.
 ghost use Rattle.kd_hands.specs.Views.{both, child, parent, spent};
 ghost use Rattle.kd_turn.specs.Told.{drew, looked, passed, sets_mark, swept_up};
-ghost use Rattle.kd_hands.specs.World.{Fact, hands_after};
+ghost use Rattle.kd_hands.specs.Locks.{Fact, hands_after};
 
 use crate::standing::Standing;
 use crate::views::{Cell, View};

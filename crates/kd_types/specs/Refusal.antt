@@ -4,53 +4,53 @@ use Rattle.kd_types.specs.declared.refusal.Refusal.{Refusal}
 use Rattle.kd_types.specs.declared.refusal.Refusal.TheVariants.{Malformed, Unsupported, BadFlags, MissingItem, DoubledItem, BadName, NotPermitted, NoSuchName, NoSuchConnection, NameMoved, NameTaken, AlreadyOwned, NotOwner, TooMany, PoolFull, Quota, NotStarted, NoMessage, NoSuchPriority, NoSuchSlice, NotReceived, Busy, BloomSize, TooLong, BroadcastMisuse, NoSuchBus, BusExists, WrongPrefix, NoSuchEndpoint, EndpointExists, WrongState, MessagesQueued, NoSuchMatch, NoSuchSeal, BadCookie, SlicesSpent, TurnsSpent, OutOfMemory}
 
 -- the code of a reply; 0 for want of memory, which has none
-abbrev pub number_of : Refusal → ℕ
-number_of (Malformed at) = 1
-number_of (Unsupported cmd) = 2
-number_of BadFlags = 3
-number_of MissingItem = 4
-number_of DoubledItem = 5
-number_of BadName = 6
-number_of NotPermitted = 7
-number_of NoSuchName = 8
-number_of NoSuchConnection = 9
-number_of (NameMoved owner) = 10
-number_of NameTaken = 11
-number_of AlreadyOwned = 12
-number_of NotOwner = 13
-number_of (TooMany limit) = 14
-number_of PoolFull = 15
-number_of Quota = 16
-number_of NotStarted = 17
-number_of (NoMessage dropped) = 18
-number_of NoSuchPriority = 19
-number_of NoSuchSlice = 20
-number_of NotReceived = 21
-number_of (Busy slice) = 22
-number_of BloomSize = 23
-number_of TooLong = 24
-number_of BroadcastMisuse = 25
-number_of (NoSuchBus generation) = 26
-number_of BusExists = 27
-number_of WrongPrefix = 28
-number_of NoSuchEndpoint = 29
-number_of EndpointExists = 30
-number_of WrongState = 31
-number_of MessagesQueued = 32
-number_of NoSuchMatch = 33
-number_of NoSuchSeal = 34
-number_of BadCookie = 35
-number_of SlicesSpent = 36
-number_of TurnsSpent = 37
-number_of OutOfMemory = 0
+abbrev pub refusal_number : Refusal → ℕ
+refusal_number (Malformed at) = 1
+refusal_number (Unsupported cmd) = 2
+refusal_number BadFlags = 3
+refusal_number MissingItem = 4
+refusal_number DoubledItem = 5
+refusal_number BadName = 6
+refusal_number NotPermitted = 7
+refusal_number NoSuchName = 8
+refusal_number NoSuchConnection = 9
+refusal_number (NameMoved owner) = 10
+refusal_number NameTaken = 11
+refusal_number AlreadyOwned = 12
+refusal_number NotOwner = 13
+refusal_number (TooMany limit) = 14
+refusal_number PoolFull = 15
+refusal_number Quota = 16
+refusal_number NotStarted = 17
+refusal_number (NoMessage dropped) = 18
+refusal_number NoSuchPriority = 19
+refusal_number NoSuchSlice = 20
+refusal_number NotReceived = 21
+refusal_number (Busy slice) = 22
+refusal_number BloomSize = 23
+refusal_number TooLong = 24
+refusal_number BroadcastMisuse = 25
+refusal_number (NoSuchBus generation) = 26
+refusal_number BusExists = 27
+refusal_number WrongPrefix = 28
+refusal_number NoSuchEndpoint = 29
+refusal_number EndpointExists = 30
+refusal_number WrongState = 31
+refusal_number MessagesQueued = 32
+refusal_number NoSuchMatch = 33
+refusal_number NoSuchSeal = 34
+refusal_number BadCookie = 35
+refusal_number SlicesSpent = 36
+refusal_number TurnsSpent = 37
+refusal_number OutOfMemory = 0
 
 -- the word behind the code: the field, else 0
-abbrev pub value_of : Refusal → ℕ
-value_of (Malformed at) = at
-value_of (Unsupported cmd) = cmd
-value_of (NameMoved owner) = owner
-value_of (TooMany limit) = limit
-value_of (NoMessage dropped) = dropped
-value_of (Busy slice) = slice
-value_of (NoSuchBus generation) = generation
-value_of _ = 0
+abbrev pub refusal_value : Refusal → ℕ
+refusal_value (Malformed at) = at
+refusal_value (Unsupported cmd) = cmd
+refusal_value (NameMoved owner) = owner
+refusal_value (TooMany limit) = limit
+refusal_value (NoMessage dropped) = dropped
+refusal_value (Busy slice) = slice
+refusal_value (NoSuchBus generation) = generation
+refusal_value _ = 0

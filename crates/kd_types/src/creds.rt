@@ -16,7 +16,8 @@ pub struct Creds {
 pub enum Kind {
     /// Sends and receives.
     Ordinary,
-    /// A placeholder for one name: it receives what is sent to the name before a service owns it, and can't send.
+    /// A placeholder for one name: it receives what is sent to the name before a service owns it,
+    /// and can't send.
     Activator,
     /// Holds policy entries while it is connected; it has no pool.
     Holder,
@@ -24,7 +25,8 @@ pub enum Kind {
     Monitor,
 }
 
-/// A right that policy grants on a name, after the manual page kdbus.policy. A greater one includes the lesser ones.
+/// A right that policy grants on a name, after the manual page kdbus.policy. A greater one includes
+/// the lesser ones.
 #[derive(Clone, Copy, Debug, PartialEq, Eq, PartialOrd, Ord)]
 pub enum Level {
     /// To see that the name is owned, and its owner.

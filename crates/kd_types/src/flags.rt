@@ -1,4 +1,5 @@
-//! The flag words of commands, each a set of bits. A contract reads the number of a flag word as `flags.0`.
+//! The flag words of commands, each a set of bits. A contract reads the number of a flag word as
+//! `flags.0`.
 
 ghost use Rattle.std.specs.Prelude.{⊤, ◌≡◌, ◌↔◌, [], ◌∷◌, codes, IsTrue, IsSome, IfSome};
 ghost use Rattle.kd_types.specs.Flags.{has_bits, has_only};
@@ -327,7 +328,8 @@ impl Flags for ListFlags {
 
     ghost exact = { ⊤ };
 
-    ghost table = { (codes "UNIQUE", 1) ∷ (codes "NAMES", 2) ∷ (codes "ACTIVATORS", 4) ∷ (codes "QUEUED", 8) ∷ [] };
+    ghost table = { (codes "UNIQUE", 1) ∷ (codes "NAMES", 2) ∷ (codes "ACTIVATORS", 4) ∷ (codes "QUEUED", 8)
+        ∷ [] };
 
     ghost set_of = { λ f. f.0 };
 

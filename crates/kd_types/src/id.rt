@@ -28,7 +28,8 @@ impl Model for Seat {
     ghost inverse = { λ n. record { 0 = n } };
 }
 
-/// The number by which a sender knows a message again in its reply, or a connection a rule of its own.
+/// The number by which a sender knows a message again in its reply, or a connection a rule of its
+/// own.
 #[derive(Clone, Copy, Debug, PartialEq, Eq, PartialOrd, Ord, Hash)]
 pub struct Cookie(pub u64);
 

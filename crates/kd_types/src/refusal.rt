@@ -2,15 +2,15 @@
 
 ghost use Rattle.std.specs.Prelude.{◌≡◌, ◌≢◌};
 ghost use Rattle.kd_types.specs.declared.refusal.Refusal.TheVariants.{OutOfMemory};
-ghost use Rattle.kd_types.specs.Refusal.{number_of, value_of};
+ghost use Rattle.kd_types.specs.Refusal.{refusal_number, refusal_value};
 
 use crate::id::ConnId;
 use std::alloc::{AllocError, AllocFailed};
 use std::error::Error;
 use std::fmt;
 
-/// Why a command was refused. Each refusal but [`Refusal::OutOfMemory`] has a number and one word of data, as they stand in
-/// a reply.
+/// Why a command was refused. Each refusal but [`Refusal::OutOfMemory`] has a number and one word
+/// of data, as they stand in a reply.
 #[derive(Clone, Copy, Debug, PartialEq, Eq)]
 pub enum Refusal {
     /// The frame's content breaks the format at this byte of the frame.
@@ -23,7 +23,8 @@ pub enum Refusal {
         /// The command's number.
         cmd: u64,
     },
-    /// A flag, mask, size or choice is outside its written values; or a wildcard is asked of an endpoint.
+    /// A flag, mask, size or choice is outside its written values; or a wildcard is asked of an
+    /// endpoint.
     BadFlags,
     /// A required item isn't there.
     MissingItem,
@@ -31,31 +32,38 @@ pub enum Refusal {
     DoubledItem,
     /// A text isn't a name, pattern or label as required.
     BadName,
-    /// Policy doesn't allow it, or the caller isn't privileged.
+    /// SEND: the policy doesn't let the sender talk to the receiver, and this is no reply that the
+    /// receiver waits for. NAME_ACQUIRE and an activator's HELLO: the policy doesn't let the caller
+    /// own the name. A holder's HELLO and ENDPOINT_MAKE: the caller isn't privileged. A monitor's
+    /// HELLO: the caller isn't privileged, or comes by a custom endpoint.
     NotPermitted,
-    /// The name has no owner, or the caller may not see it.
+    /// The name has no owner; or the caller may not see it, where this is no reply that its owner
+    /// waits for (SEND), or where the caller has no claim on it (NAME_RELEASE).
     NoSuchName,
-    /// No connection that can be addressed has this id, or the caller may not see it.
+    /// No live ordinary connection has this id; or the sender may not see it, and this is no reply
+    /// that it waits for.
     NoSuchConnection,
     /// A message names an id and a name, and the name's owner is this other one.
     NameMoved {
         /// The name's owner.
         owner: ConnId,
     },
-    /// The name has an owner that the caller can't replace, and the caller doesn't queue.
+    /// The name has an owner that the caller can't replace, and the caller doesn't queue; or an
+    /// activator's name has an activator.
     NameTaken,
     /// The caller owns the name already.
     AlreadyOwned,
     /// The caller has no claim on a name that has an owner.
     NotOwner,
-    /// One more would pass this limit.
+    /// One more would pass this limit. The 64 of HELLO: no seat is free, and a blocked one isn't.
     TooMany {
         /// The limit.
         limit: u64,
     },
-    /// No gap of the receiver's pool holds the length.
+    /// After freed slices were given back no gap of the receiver's pool holds the length.
     PoolFull,
-    /// The messages of the sender's user that wait in the receiver's pool would take too much of it.
+    /// The messages of the sender's user that wait in the receiver's pool or are being written
+    /// there, with this one, would take more than half of the pool, or be more than 32.
     Quota,
     /// Only an activator owns the name, and it isn't to be started.
     NotStarted,
@@ -66,47 +74,52 @@ pub enum Refusal {
     },
     /// Messages wait, and none is within the limit.
     NoSuchPriority,
-    /// The caller holds no slice of this number.
+    /// FREE: the caller holds no slice of this number. READ: the slice of this number is neither
+    /// peeked at nor received.
     NoSuchSlice,
     /// The slice was peeked at and not received.
     NotReceived,
-    /// This slice of the activator's pool is still being written, so its messages can't be handed over.
+    /// This slice of the activator's pool is still being written, so its messages can't be handed
+    /// over.
     Busy {
         /// The slice's number.
         slice: u64,
     },
-    /// A mask or filter hasn't the bus's size.
+    /// A mask isn't 1, 2, 3 or 4 times as long as the bus's filters, or a broadcast's filter isn't
+    /// of their size.
     BloomSize,
-    /// The message or the sealed payload is longer than the limit.
+    /// The message without its metadata, or the sealed payload, is longer than 65,536 bytes.
     TooLong,
-    /// A broadcast with what only a unicast may have, or the reverse.
+    /// A broadcast that expects a reply or is sent to a name; or a unicast that is a signal.
     BroadcastMisuse,
-    /// There is no such bus; or the bus in this place has another generation by now.
+    /// There is no bus of this name; or the one that it had has another generation by now.
     NoSuchBus {
         /// The generation that stands, 0 for none.
         generation: u64,
     },
     /// A bus of this name exists.
     BusExists,
-    /// A bus's name doesn't begin with its creator's uid and a dash.
+    /// A bus's name isn't its creator's uid in decimal, a dash, and at least one byte more.
     WrongPrefix,
     /// The bus has no endpoint of this label.
     NoSuchEndpoint,
-    /// An endpoint of this label exists.
+    /// The bus has an endpoint of this label, or the label is `bus`, the default endpoint's.
     EndpointExists,
     /// The caller isn't of a kind that may give the command, or its connection is gone.
     WrongState,
-    /// Messages wait in the pool of a connection that asks to leave.
+    /// Messages wait in the pool of a connection that asks to leave, or are being written there.
     MessagesQueued,
     /// The caller has no rule of this cookie.
     NoSuchMatch,
-    /// The caller has no sealed payload of this number, or the range isn't inside it.
+    /// The caller has no sealed payload of this number, or the range isn't inside it. READ: the
+    /// slice holds no share of a sealed payload.
     NoSuchSeal,
     /// A request's cookie or deadline is 0, or the caller waits for a reply to this cookie already.
     BadCookie,
-    /// All slice numbers of the receiver's pool are in use.
+    /// After freed slices were given back all slice numbers of the receiver's pool are in use.
     SlicesSpent,
-    /// The caller's pass has taken all its turns.
+    /// The caller's pass has taken all its turns. It ends the session and is never written as a
+    /// reply.
     TurnsSpent,
     /// Memory ran out. It has no number and is never written as a reply.
     OutOfMemory,
@@ -140,7 +153,7 @@ impl Refusal {
     /// The code of a reply, from 1.
     pub fn number(&self) -> u64
         requires { self.now ≢ Refusal.OutOfMemory }
-        ensures { result ≡ number_of self.now }
+        ensures { result ≡ refusal_number self.now }
     {
         match self {
             Refusal::Malformed { .. } => 1,
@@ -186,7 +199,7 @@ impl Refusal {
 
     /// The word behind the code: the refusal's field, else 0.
     pub fn value(&self) -> u64
-        ensures { result ≡ value_of self.now }
+        ensures { result ≡ refusal_value self.now }
     {
         match self {
             Refusal::Malformed { at } => *at,

@@ -10,7 +10,8 @@ use std::fmt;
 /// Why bytes that the bus wrote for a client can't be read.
 #[derive(Clone, Copy, Debug, PartialEq, Eq)]
 pub enum ReplyError {
-    /// The format is broken at this byte: the start of the first word, item or run of bytes that breaks it.
+    /// The format is broken at this byte: the start of the first word, item or run of bytes that
+    /// breaks it.
     Bad {
         /// The place, from the front of the bytes.
         at: u64,

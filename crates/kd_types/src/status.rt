@@ -1,7 +1,8 @@
 //! How a run of the program ended.
 
 ghost use Rattle.std.specs.Prelude.{◌≡◌};
-ghost use Rattle.kd_types.specs.Status.{exit_code};
+ghost use Rattle.std.specs.declared.option.Option.TheVariants.{Some};
+ghost use Rattle.kd_types.specs.Status.{exit_code, status_text};
 
 use std::fmt;
 
@@ -25,6 +26,20 @@ pub enum Status {
     TooMuchInput,
     /// Memory ran out.
     OutOfMemory,
+    /// A worker couldn't be started.
+    NoWorker,
+    /// A path couldn't be listened on, or a listener failed before its last session.
+    ListenFault,
+    /// The configuration breaks its format in the line that begins at this byte.
+    BadConfig {
+        /// The place, from the front of the configuration; 65,537 for one that is too long.
+        at: u64,
+    },
+    /// The input isn't the trace of a run: it breaks the format at this byte.
+    BadTrace {
+        /// The place, from the front of the input.
+        at: u64,
+    },
 }
 
 impl Status {
@@ -40,11 +55,17 @@ impl Status {
             Status::BadFrame { .. } => 5,
             Status::TooMuchInput => 6,
             Status::OutOfMemory => 7,
+            Status::NoWorker => 8,
+            Status::ListenFault => 9,
+            Status::BadConfig { .. } => 10,
+            Status::BadTrace { .. } => 11,
         }
     }
 }
 
 impl fmt::Display for Status {
+    ghost output = { λ status. Some (status_text status) };
+
     fn fmt<W: fmt::Write>(&self, f: &mut fmt::Formatter<W>) -> fmt::Result {
         match self {
             Status::Done => write!(f, ""),
@@ -59,6 +80,10 @@ impl fmt::Display for Status {
             Status::BadFrame { at } => write!(f, "kdbusd: bad frame at byte {at}"),
             Status::TooMuchInput => write!(f, "kdbusd: too much input"),
             Status::OutOfMemory => write!(f, "kdbusd: out of memory"),
+            Status::NoWorker => write!(f, "kdbusd: no worker"),
+            Status::ListenFault => write!(f, "kdbusd: listen fault"),
+            Status::BadConfig { at } => write!(f, "kdbusd: bad configuration at byte {at}"),
+            Status::BadTrace { at } => write!(f, "kdbusd: bad trace at byte {at}"),
         }
     }
 }

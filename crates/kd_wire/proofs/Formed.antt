@@ -1,10 +1,12 @@
 -- Whether a command has a frame, step by step.
 use Rattle.std.proofs.lemmas.Bool.{le-leb, leb-true}
-use Rattle.std.proofs.Common.{◌≡◌, ℕ, ◌+◌, ◌-◌, ◌*◌, ◌<◌, cond, Bool, true, false, List, [], ◌∷◌, ◌++◌, length, get_or, take, Option, Some, None, Result, Ok, Err, refl, sym, ap, ◌∙◌, arith, length-append}
+use Rattle.std.proofs.Common.{◌≡◌, ℕ, ◌+◌, ◌-◌, ◌*◌, ◌<◌, cond, Bool, true, false, List, [], ◌∷◌, ◌++◌, length, get_or, take, Some, None, Result, Ok, Err, refl, sym, ap, ◌∙◌, arith, length-append}
 use Rattle.std.specs.Prelude.{not, ◌&&◌, ◌||◌, nat_le, nat_lt, is_none, IfOk}
 use Rattle.std.specs.Str.{is_utf8}
+use Rattle.kd_model.proofs.Truth.{and_true, both_true, none_is}
 use Rattle.kd_model.specs.Words.{first_that_holds}
 use Rattle.kd_item.specs.Spelling.{words, item_length}
+use Rattle.kd_item.proofs.Words.{length-words}
 use Rattle.kd_types.specs.declared.flags.NameFlags.{NameFlags}
 use Rattle.kd_types.specs.declared.refusal.Refusal.TheVariants.{DoubledItem, MissingItem, BadFlags}
 use Rattle.kd_wire.specs.declared.item.WireItem.{WireItem}
@@ -12,21 +14,21 @@ use Rattle.kd_wire.specs.declared.item.WireItem.TheVariants.{Name, Bus, Payload}
 use Rattle.kd_wire.specs.declared.opcode.Opcode.TheVariants as opcodes
 use Rattle.kd_wire.specs.declared.command.Command.{Command}
 use Rattle.kd_wire.specs.declared.command.Command.TheVariants.{NameAcquire, NameRelease, MakeBus, Seal}
-use Rattle.kd_wire.specs.Opcodes.{number_of, word_count}
+use Rattle.kd_wire.specs.Opcodes.{opcode_number, word_count}
 use Rattle.kd_wire.specs.Items.{spelled, wire_length}
-use Rattle.kd_wire.specs.Commands.{opcode_in, flags_of, words_of, items_of}
+use Rattle.kd_wire.specs.Commands.{opcode_in, flags_of, command_words, items_of}
 use Rattle.kd_wire.specs.Frames.{frame_of, frame_length}
 use Rattle.kd_wire.specs.Refusals.{has_unknown_flag, has_bad_word, flaw_of, IsWellFormed}
 use Rattle.kd_wire.specs.WellFormed.{is_well_formed}
-use Rattle.kd_wire.proofs.Lengths.{spelled_so_far, length_alone, length_words}
+use Rattle.kd_wire.proofs.Lengths.{spelled_so_far, length_alone}
 
 too_long : (n : ℕ) → 131072 < n → None ≡ cond (nat_le n 131072) (Some n) None
 too_long n long = grind arith
 
 -- the items as far as one are longer than a frame
-pub passes : (items : List WireItem) (i total size : ℕ) (item : WireItem) → i < length items → item ≡ get_or items i item → total ≡ length (spelled (take i items)) → size ≡ wire_length item → 131072 - total < size
+pub exceeds : (items : List WireItem) (i total size : ℕ) (item : WireItem) → i < length items → item ≡ get_or items i item → total ≡ length (spelled (take i items)) → size ≡ wire_length item → 131072 - total < size
     → None ≡ cond (nat_le (length (spelled items)) 131072) (Some (length (spelled items))) None
-passes items i total size item lt is so_far size-is long = too_long (length (spelled items)) (omega (arith, spelled_so_far items i item lt is))
+exceeds items i total size item lt is so_far size-is long = too_long (length (spelled items)) (omega (arith, spelled_so_far items i item lt is))
 
 -- ---- commands with one item
 
@@ -46,10 +48,6 @@ one_alone : (a b : Bool) → (a && (b && true) && true) ≡ (a && b)
 one_alone true true = refl
 one_alone true false = refl
 one_alone false b = refl
-
-and_true : (b : Bool) → (b && true) ≡ b
-and_true true = refl
-and_true false = refl
 
 pub acquires : (flags : NameFlags) (name : List ℕ) → is_well_formed (NameAcquire flags name) ≡ ((nat_le (32 + 8 * word_count opcodes.NameAcquire + item_length (length name)) 131072 && is_utf8 name) && not (has_unknown_flag opcodes.NameAcquire flags.0))
 unfolding flaw_of
@@ -98,29 +96,20 @@ all_three a b d x y z = rw (x, y, z) refl
 pub judged : (command : Command) → IsWellFormed command → is_well_formed command ≡ true
 judged command w = all_three _ _ _ (le-leb _ _ w.size) w.items (ap is_none w.values)
 
-parted : (a b d : Bool) → (a && b && d) ≡ true → (a ≡ true) × (b ≡ true) × (d ≡ true)
-parted true true true e = (refl, refl, refl)
-parted true true false e = absurd cc
-parted true false d e = absurd cc
-parted false b d e = absurd cc
-
-nothing_there : {A : Type 0} (o : Option A) → is_none o ≡ true → o ≡ None
-nothing_there None e = refl
-nothing_there (Some x) e = absurd cc
-
 pub formed : (command : Command) → is_well_formed command ≡ true → IsWellFormed command
 formed command e =
-    let parts = parted _ _ _ e in
-    record { size = leb-true _ _ parts.0; items = parts.1; values = nothing_there _ parts.2 }
+    let all = both_true _ _ e in
+    let form = both_true _ _ all.0 in
+    record { size = leb-true _ _ form.0; items = form.1; values = none_is _ all.1 }
 
 -- ---- the length of a frame
 
 length_frame : (caller : ℕ) (command : Command) → length (frame_of caller command) ≡ frame_length command
 length_frame caller command =
-    let own = words_of command in
+    let own = command_words command in
     let items = items_of command in
-    let head : List ℕ = frame_length command ∷ number_of (opcode_in command) ∷ caller ∷ flags_of command ∷ [] in
-    omega (arith, length-append (words head ++ words own) (spelled items), length-append (words head) (words own), length_words head, length_words own)
+    let head : List ℕ = frame_length command ∷ opcode_number (opcode_in command) ∷ caller ∷ flags_of command ∷ [] in
+    omega (arith, length-append (words head ++ words own) (spelled items), length-append (words head) (words own), length-words head, length-words own)
 
 -- what is read of a frame has its length
 pub length_read : (frame : List ℕ) (caller : ℕ) (command : Command) → frame ≡ frame_of caller command → frame_length command ≡ length frame

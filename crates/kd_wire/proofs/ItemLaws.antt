@@ -1,21 +1,24 @@
 -- What is read of an item is spelled so.
-use Rattle.std.proofs.Common.{◌≡◌, ℕ, ◌+◌, ◌≤◌, Bool, true, false, eqb, ltb, leb, cond, List, [], ◌∷◌, ◌++◌, length, drop, Option, Some, None, Result, Ok, Err, refl, sym, ap, subst, ◌∙◌, append_assoc, arith, ◌⊎◌, inl, inr, ◌-◌, not, replicate}
+use Rattle.std.proofs.Common.{◌≡◌, ℕ, ◌+◌, ◌≤◌, Bool, true, false, eqb, ltb, leb, cond, List, [], ◌∷◌, ◌++◌, length, drop, Option, Some, None, Result, Ok, Err, refl, sym, ap, subst, ◌∙◌, append_assoc, arith, inl, inr, ◌-◌, not}
 use Rattle.std.proofs.lemmas.Bool.{eqb-true, ltb-false, ne_eqb}
-use Rattle.std.proofs.lemmas.List.{append-nil, nil_from_length, take_at, drop_at}
+use Rattle.std.proofs.lemmas.List.{append-nil, nil_from_length}
 use Rattle.std.proofs.lemmas.Grind.{flat_map-append}
 use Rattle.std.specs.Str.{is_utf8}
 use Rattle.std.specs.List.{AllByRecursion}
-use Rattle.kd_item.specs.Spelling.{Entry, word, number, padding, spelling, spellings, words}
+use Rattle.kd_model.proofs.Truth.{option_cases, same_some}
+use Rattle.kd_model.proofs.Lists.{all_of_push}
+use Rattle.kd_item.specs.Spelling.{Entry, number, spelling, spellings, words}
 use Rattle.kd_item.specs.Reading.{split, placed}
-use Rattle.kd_item.proofs.Words.{IsBytes, IsBytes-drop, IsBytes-take}
+use Rattle.kd_item.proofs.Words.{IsBytes, IsBytes-front, IsBytes-behind}
+use Rattle.kd_item.proofs.Sizes.{body_bytes}
 use Rattle.kd_item.proofs.Splits.{split_whole}
 use Rattle.kd_types.specs.declared.refusal.Refusal.{Refusal}
 use Rattle.kd_types.specs.declared.refusal.Refusal.TheVariants.{Malformed}
 use Rattle.kd_wire.specs.declared.item.WireItem.{WireItem}
 use Rattle.kd_wire.specs.declared.item.WireItem.TheVariants.{Payload, Sealed, DstName, Filter, Mask, Name, Access, Bus, Endpoint, Description, Id, IdAdd, IdRemove, NameAdd, NameRemove, NameChange}
-use Rattle.kd_wire.specs.Items.{kind_of, entry_of, spelled}
+use Rattle.kd_wire.specs.Items.{kind_of, wire_entry, spelled}
 use Rattle.kd_wire.specs.Kinds.{is_one_of}
-use Rattle.kd_wire.specs.Reading.{text_item, id_item, change_item, change_in, item_in, has_form, stand, may_follow, item_behind, items_behind, if_ended, items_in}
+use Rattle.kd_wire.specs.Reading.{text_item, id_item, change_item, change_item_in, item_in, has_form, stand, item_may_follow, item_behind, items_behind, if_ended, items_in}
 use Rattle.kd_wire.proofs.WordLaws.{words_split, words_only}
 use Rattle.kd_wire.proofs.ItemsRead.{behind_some, behind_none, behind_end}
 
@@ -24,25 +27,22 @@ the_entry kind body = record { kind = kind; body = body }
 
 -- if it is some item, that item is spelled by this kind and this body, and has the form of its kind
 abbrev pub Says : ℕ → List ℕ → Option WireItem → Type 0
-Says kind body o = (item : WireItem) → o ≡ Some item → (entry_of item ≡ the_entry kind body) × (has_form item ≡ true)
+Says kind body o = (item : WireItem) → o ≡ Some item → (wire_entry item ≡ the_entry kind body) × (has_form item ≡ true)
 
 none_says : (kind : ℕ) (body : List ℕ) → Says kind body None
 none_says kind body = λ item e. absurd cc
 
-some_is : (x y : WireItem) → Some x ≡ Some y → x ≡ y
-some_is x y e = cc
-
-some_says : (kind : ℕ) (body : List ℕ) (made : WireItem) → entry_of made ≡ the_entry kind body → has_form made ≡ true → Says kind body (Some made)
-some_says kind body made h form = λ item e. subst (λ x. (entry_of x ≡ the_entry kind body) × (has_form x ≡ true)) (some_is made item e) (h, form)
+some_says : (kind : ℕ) (body : List ℕ) (made : WireItem) → wire_entry made ≡ the_entry kind body → has_form made ≡ true → Says kind body (Some made)
+some_says kind body made h form = λ item e. subst (λ x. (wire_entry x ≡ the_entry kind body) × (has_form x ≡ true)) (same_some made item e) (h, form)
 
 if_says : (kind : ℕ) (body : List ℕ) (b : Bool) (x y : Option WireItem) → (b ≡ true → Says kind body x) → (b ≡ false → Says kind body y) → Says kind body (cond b x y)
 if_says kind body true x y f g = f refl
 if_says kind body false x y f g = g refl
 
 -- an item that has this kind word, and this body
-made_says : (kind number : ℕ) (body : List ℕ) (made : WireItem) → eqb kind number ≡ true → kind_of made ≡ number → (entry_of made).body ≡ body → has_form made ≡ true → Says kind body (Some made)
+made_says : (kind number : ℕ) (body : List ℕ) (made : WireItem) → eqb kind number ≡ true → kind_of made ≡ number → (wire_entry made).body ≡ body → has_form made ≡ true → Says kind body (Some made)
 made_says kind number body made test kind-is body-is form =
-    some_says kind body made (ap (λ n. the_entry n (entry_of made).body) (kind-is ∙ sym (eqb-true kind number test)) ∙ ap (the_entry kind) body-is) form
+    some_says kind body made (ap (λ n. the_entry n (wire_entry made).body) (kind-is ∙ sym (eqb-true kind number test)) ∙ ap (the_entry kind) body-is) form
 
 text_says : (kind : ℕ) (text : List ℕ) → is_utf8 text ≡ true → Says kind text (text_item kind text)
 text_says kind text utf8 =
@@ -66,7 +66,7 @@ change_says kind body fits long utf8 =
     if_says kind body (eqb kind 15) _ _ (λ e. made_says kind 15 body (NameRemove (number body) (number (drop 8 body)) (drop 16 body)) e refl same utf8) (λ _.
     if_says kind body (eqb kind 16) _ _ (λ e. made_says kind 16 body (NameChange (number body) (number (drop 8 body)) (drop 16 body)) e refl same utf8) (λ _. none_says kind body)))
 
-change_in_says : (kind : ℕ) (body : List ℕ) → IsBytes body → Says kind body (change_in kind body)
+change_in_says : (kind : ℕ) (body : List ℕ) → IsBytes body → Says kind body (change_item_in kind body)
 change_in_says kind body fits =
     if_says kind body (ltb (length body) 16) _ _ (λ _. none_says kind body) (λ long.
     if_says kind body (is_utf8 (drop 16 body)) _ _ (λ utf8. change_says kind body fits (ltb-false _ _ long) utf8) (λ _. none_says kind body))
@@ -93,37 +93,25 @@ passed : (b c : Bool) → cond (not b) false c ≡ true → b ≡ true
 passed true c e = refl
 passed false c e = absurd cc
 
-pub behind_takes : (kinds : List ℕ) (before : List WireItem) (e : Entry) (item : WireItem) → item_behind kinds before e ≡ Some item → (is_one_of kinds e.kind ≡ true) × (item_in e.kind e.body ≡ Some item) × (may_follow kinds before e.kind ≡ true)
+pub behind_takes : (kinds : List ℕ) (before : List WireItem) (e : Entry) (item : WireItem) → item_behind kinds before e ≡ Some item → (is_one_of kinds e.kind ≡ true) × (item_in e.kind e.body ≡ Some item) × (item_may_follow kinds before e.kind ≡ true)
 behind_takes kinds before e item h =
-    let a = if_some (may_follow kinds before e.kind) (item_in e.kind e.body) item h in
+    let a = if_some (item_may_follow kinds before e.kind) (item_in e.kind e.body) item h in
     (passed (is_one_of kinds e.kind) _ a.0, a.1, a.0)
-
-pub option_cases : {A : Type 0} (o : Option A) → (o ≡ None) ⊎ ((x : A) × (o ≡ Some x))
-option_cases None = inl refl
-option_cases (Some x) = inr (x, refl)
 
 -- each body has bytes
 abbrev pub AreBytes : List Entry → Type 0
 AreBytes es = AllByRecursion (λ (e : Entry). IsBytes e.body) es
 
 -- each item is of one of the kinds
+abbrev pub IsOf : List ℕ → WireItem → Type 0
+IsOf kinds item = is_one_of kinds (kind_of item) ≡ true
+
 abbrev pub AreOf : List ℕ → List WireItem → Type 0
-AreOf kinds items = AllByRecursion (λ (item : WireItem). is_one_of kinds (kind_of item) ≡ true) items
-
-pub bytes_left : (a b : List ℕ) → IsBytes (a ++ b) → IsBytes a
-bytes_left a b fits = subst (λ (l : List ℕ). IsBytes l) (take_at a b (length a) refl) (IsBytes-take (length a) (a ++ b) fits)
-
-pub bytes_right : (a b : List ℕ) → IsBytes (a ++ b) → IsBytes b
-bytes_right a b fits = subst (λ (l : List ℕ). IsBytes l) (drop_at a b (length a) refl) (IsBytes-drop (length a) (a ++ b) fits)
-
-pub body_bytes : (e : Entry) → IsBytes (spelling e) → IsBytes e.body
-body_bytes e fits =
-    let n = 16 + length e.body in
-    bytes_right (word n ++ word e.kind) e.body (bytes_left (word n ++ word e.kind ++ e.body) (replicate (padding n) 0) fits)
+AreOf kinds items = AllByRecursion (IsOf kinds) items
 
 entries_bytes : (es : List Entry) → IsBytes (spellings es) → AreBytes es
 entries_bytes [] fits = tt
-entries_bytes (e ∷ es) fits = (body_bytes e (bytes_left (spelling e) (spellings es) fits), entries_bytes es (bytes_right (spelling e) (spellings es) fits))
+entries_bytes (e ∷ es) fits = (body_bytes e (IsBytes-front (spelling e) (spellings es) fits), entries_bytes es (IsBytes-behind (spelling e) (spellings es) fits))
 
 abbrev pub the_ok : List WireItem → Result (List WireItem) Refusal
 the_ok items = Ok items
@@ -134,7 +122,7 @@ the_error at = Err (Malformed at)
 pub ok_is : (x y : List WireItem) → the_ok x ≡ the_ok y → x ≡ y
 ok_is x y e = cc
 
-entry_said : (kinds : List ℕ) (before : List WireItem) (e : Entry) (item : WireItem) → IsBytes e.body → item_behind kinds before e ≡ Some item → entry_of item ≡ e
+entry_said : (kinds : List ℕ) (before : List WireItem) (e : Entry) (item : WireItem) → IsBytes e.body → item_behind kinds before e ≡ Some item → wire_entry item ≡ e
 entry_said kinds before e item fits h = (item_says e.kind e.body fits item (behind_takes kinds before e item h).1).0
 
 -- the items that were read are spelled by their entries, behind those before them
@@ -147,13 +135,9 @@ read_spelled kinds at (e ∷ es) before items fits h =
       | inl none ↦ let never : the_error at ≡ the_ok items = sym (behind_none kinds before e at (placed next es) none) ∙ h in absurd cc
       | inr some ↦
           let more = read_spelled kinds next es (before ++ some.0 ∷ []) items fits.1 (sym (behind_some kinds before e at (placed next es) some.0 some.1) ∙ h) in
-          let one : spelled (before ++ some.0 ∷ []) ≡ spelled before ++ (spelling e ++ []) = flat_map-append (λ x. spelling (entry_of x)) before (some.0 ∷ []) ∙ ap (λ x. spelled before ++ (spelling x ++ [])) (entry_said kinds before e some.0 fits.0 some.1) in
+          let one : spelled (before ++ some.0 ∷ []) ≡ spelled before ++ (spelling e ++ []) = flat_map-append (λ x. spelling (wire_entry x)) before (some.0 ∷ []) ∙ ap (λ x. spelled before ++ (spelling x ++ [])) (entry_said kinds before e some.0 fits.0 some.1) in
           more ∙ ap (λ (l : List ℕ). l ++ spellings es) (one ∙ ap (λ (l : List ℕ). spelled before ++ l) (append-nil (spelling e))) ∙ append_assoc (spelled before) (spelling e) (spellings es)
     ]
-
-one_more : (kinds : List ℕ) (before : List WireItem) (item : WireItem) → AreOf kinds before → is_one_of kinds (kind_of item) ≡ true → AreOf kinds (before ++ item ∷ [])
-one_more kinds [] item taken one = (one, tt)
-one_more kinds (x ∷ before) item taken one = (taken.0, one_more kinds before item taken.1 one)
 
 -- and each is of one of the kinds
 read_kinds : (kinds : List ℕ) (at : ℕ) (es : List Entry) (before items : List WireItem) → AreBytes es → AreOf kinds before → items_behind kinds before (placed at es) ≡ Ok items → AreOf kinds items
@@ -165,7 +149,7 @@ read_kinds kinds at (e ∷ es) before items fits taken h =
       | inr some ↦
           let kind : kind_of some.0 ≡ e.kind = ap (λ (x : Entry). x.kind) (entry_said kinds before e some.0 fits.0 some.1) in
           let one : is_one_of kinds (kind_of some.0) ≡ true = ap (is_one_of kinds) kind ∙ (behind_takes kinds before e some.0 some.1).0 in
-          read_kinds kinds next es (before ++ some.0 ∷ []) items fits.1 (one_more kinds before some.0 taken one) (sym (behind_some kinds before e at (placed next es) some.0 some.1) ∙ h)
+          read_kinds kinds next es (before ++ some.0 ∷ []) items fits.1 (all_of_push (IsOf kinds) before some.0 taken one) (sym (behind_some kinds before e at (placed next es) some.0 some.1) ∙ h)
     ]
 
 -- and each may stand behind those before it
@@ -179,7 +163,7 @@ read_stands kinds at (e ∷ es) before items fits h =
           let takes = behind_takes kinds before e some.0 some.1 in
           let says = item_says e.kind e.body fits.0 some.0 takes.1 in
           let kind : kind_of some.0 ≡ e.kind = ap (λ (x : Entry). x.kind) says.0 in
-          let may : may_follow kinds before (kind_of some.0) ≡ true = ap (may_follow kinds before) kind ∙ takes.2 in
+          let may : item_may_follow kinds before (kind_of some.0) ≡ true = ap (item_may_follow kinds before) kind ∙ takes.2 in
           let form : has_form some.0 ≡ true = says.1 in
           let rest = read_stands kinds next es (before ++ some.0 ∷ []) items fits.1 (sym (behind_some kinds before e at (placed next es) some.0 some.1) ∙ h) in
           let others : stand kinds (before ++ some.0 ∷ []) rest.0 ≡ true = rest.2 in

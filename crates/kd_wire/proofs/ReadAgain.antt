@@ -7,10 +7,12 @@ use Rattle.std.proofs.lemmas.Int.{to_z-of_z}
 use Rattle.std.proofs.lemmas.Bool.{le-ltb}
 use Rattle.std.proofs.lemmas.List.{append-nil, drop_at, drop-drop, nil_from_length}
 use Rattle.std.proofs.lemmas.List.Folds.{flat_map-map}
+use Rattle.kd_model.proofs.Truth.{both_true}
 use Rattle.kd_item.specs.Spelling.{Entry, AreItems, word, words, number, spelling, spellings}
 use Rattle.kd_item.specs.Reading.{split, placed}
-use Rattle.kd_item.proofs.Words.{length-word, word_again}
+use Rattle.kd_item.proofs.Words.{length-word, word_again, length-words}
 use Rattle.kd_item.proofs.Splits.{split_again}
+use Rattle.kd_item.proofs.Sizes.{length-body}
 use Rattle.kd_types.specs.declared.refusal.Refusal.{Refusal}
 use Rattle.kd_wire.specs.declared.port.Port.{Port}
 use Rattle.kd_wire.specs.declared.opcode.Opcode.{Opcode}
@@ -19,19 +21,18 @@ use Rattle.kd_wire.specs.declared.item.WireItem.{WireItem}
 use Rattle.kd_wire.specs.declared.item.WireItem.TheVariants.{Payload, Sealed, DstName, Filter, Mask, Name, Access, Bus, Endpoint, Description, Id, IdAdd, IdRemove, NameAdd, NameRemove, NameChange}
 use Rattle.kd_wire.specs.declared.command.Command.{Command}
 use Rattle.kd_wire.specs.declared.command.Command.TheVariants as commands
-use Rattle.kd_wire.specs.Ports.{admits, runs}
-use Rattle.kd_wire.specs.Opcodes.{number_of, opcode_of, word_count}
-use Rattle.kd_wire.specs.Items.{kind_of, words_in, bytes_in, body_of, entry_of, spelled, wire_length}
-use Rattle.kd_wire.specs.Commands.{bit, opcode_in, flags_of, words_of, items_of}
+use Rattle.kd_wire.specs.Ports.{takes_caller, takes_opcode}
+use Rattle.kd_wire.specs.Opcodes.{opcode_number, opcode_of, word_count}
+use Rattle.kd_wire.specs.Items.{kind_of, words_in, bytes_in, body_of, wire_entry, spelled, wire_length}
+use Rattle.kd_wire.specs.Commands.{bit, opcode_in, flags_of, command_words, items_of}
 use Rattle.kd_wire.specs.Frames.{layout, frame_of, frame_length, command_word, caller_word, flags_word}
 use Rattle.kd_wire.specs.Kinds.{kinds_of, nth}
-use Rattle.kd_wire.specs.Reading.{item_in, has_form, may_follow, stand, item_behind, items_behind, if_ended, items_in}
+use Rattle.kd_wire.specs.Reading.{item_in, has_form, item_may_follow, stand, item_behind, items_behind, if_ended, items_in}
 use Rattle.kd_wire.specs.Refusals.{words_from, own_words, items_at, has_broken_words, flaw_of, refusal_in, refusal_of, IsWellFormed}
 use Rattle.kd_wire.specs.Typed.{AreWords, HasSigned, IsTyped}
-use Rattle.kd_wire.proofs.Lengths.{length_words, length_body, length_item}
+use Rattle.kd_wire.proofs.Lengths.{length_item}
 use Rattle.kd_wire.proofs.ItemsRead.{behind_some, behind_end, is_ended}
-use Rattle.kd_wire.proofs.Parts.{both}
-use Rattle.kd_wire.proofs.Accepted.{is_run}
+use Rattle.kd_wire.proofs.Accepted.{opcode_taken}
 
 -- ---- words
 
@@ -58,7 +59,7 @@ pub words_here : (ws rest bytes : List ℕ) → AreWords ws → bytes ≡ words 
 words_here ws rest bytes fits e = ap (words_from (length ws) 0) e ∙ words_again ws rest fits
 
 pub behind_words : (ws rest bytes : List ℕ) (n : ℕ) → n ≡ 8 * length ws → bytes ≡ words ws ++ rest → drop n bytes ≡ rest
-behind_words ws rest bytes n count e = ap (drop n) e ∙ drop_at (words ws) rest n (length_words ws ∙ sym count)
+behind_words ws rest bytes n count e = ap (drop n) e ∙ drop_at (words ws) rest n (length-words ws ∙ sym count)
 
 -- ---- one item
 
@@ -109,38 +110,38 @@ item_said_again (DstName text) fits form = rw form refl
 item_said_again (Name text) fits form = rw form refl
 item_said_again (Bus text) fits form = rw form refl
 item_said_again (Endpoint text) fits form = rw form refl
-item_said_again (Description text) fits form = let b = both (is_utf8 text) (leb (length text) 255) form in rw (b.0, b.1) refl
-item_said_again (Sealed x y z) fits form = let ws = x ∷ y ∷ z ∷ [] in sealed_again (words ws ++ []) x y z (length_body ws []) (words_again ws [] fits)
-item_said_again (Access x y z) fits form = let ws = x ∷ y ∷ z ∷ [] in access_again (words ws ++ []) x y z (length_body ws []) (words_again ws [] fits)
+item_said_again (Description text) fits form = let b = both_true (is_utf8 text) (leb (length text) 255) form in rw (b.0, b.1) refl
+item_said_again (Sealed x y z) fits form = let ws = x ∷ y ∷ z ∷ [] in sealed_again (words ws ++ []) x y z (length-body ws []) (words_again ws [] fits)
+item_said_again (Access x y z) fits form = let ws = x ∷ y ∷ z ∷ [] in access_again (words ws ++ []) x y z (length-body ws []) (words_again ws [] fits)
 item_said_again (Filter x bits) fits form =
     let ws = x ∷ [] in
-    filter_again (words ws ++ bits) bits x (omega (arith, length_body ws bits)) (words_again ws bits fits) (behind_words ws bits (words ws ++ bits) 8 refl refl)
-item_said_again (Id x) fits form = let ws = x ∷ [] in (id_again (words ws ++ []) x (length_body ws []) (words_again ws [] fits)).0
-item_said_again (IdAdd x) fits form = let ws = x ∷ [] in (id_again (words ws ++ []) x (length_body ws []) (words_again ws [] fits)).1
-item_said_again (IdRemove x) fits form = let ws = x ∷ [] in (id_again (words ws ++ []) x (length_body ws []) (words_again ws [] fits)).2
+    filter_again (words ws ++ bits) bits x (omega (arith, length-body ws bits)) (words_again ws bits fits) (behind_words ws bits (words ws ++ bits) 8 refl refl)
+item_said_again (Id x) fits form = let ws = x ∷ [] in (id_again (words ws ++ []) x (length-body ws []) (words_again ws [] fits)).0
+item_said_again (IdAdd x) fits form = let ws = x ∷ [] in (id_again (words ws ++ []) x (length-body ws []) (words_again ws [] fits)).1
+item_said_again (IdRemove x) fits form = let ws = x ∷ [] in (id_again (words ws ++ []) x (length-body ws []) (words_again ws [] fits)).2
 item_said_again (NameAdd x y text) fits form =
     let ws = x ∷ y ∷ [] in
-    (change_again (words ws ++ text) text x y (omega (arith, length_body ws text)) (words_again ws text fits) (behind_words ws text (words ws ++ text) 16 refl refl) form).0
+    (change_again (words ws ++ text) text x y (omega (arith, length-body ws text)) (words_again ws text fits) (behind_words ws text (words ws ++ text) 16 refl refl) form).0
 item_said_again (NameRemove x y text) fits form =
     let ws = x ∷ y ∷ [] in
-    (change_again (words ws ++ text) text x y (omega (arith, length_body ws text)) (words_again ws text fits) (behind_words ws text (words ws ++ text) 16 refl refl) form).1
+    (change_again (words ws ++ text) text x y (omega (arith, length-body ws text)) (words_again ws text fits) (behind_words ws text (words ws ++ text) 16 refl refl) form).1
 item_said_again (NameChange x y text) fits form =
     let ws = x ∷ y ∷ [] in
-    (change_again (words ws ++ text) text x y (omega (arith, length_body ws text)) (words_again ws text fits) (behind_words ws text (words ws ++ text) 16 refl refl) form).2
+    (change_again (words ws ++ text) text x y (omega (arith, length-body ws text)) (words_again ws text fits) (behind_words ws text (words ws ++ text) 16 refl refl) form).2
 
 -- ---- items
 
 abbrev AreTyped : List WireItem → Type 0
 AreTyped items = AllByRecursion (λ (item : WireItem). AreWords (words_in item)) items
 
-items_behind_again : (kinds : List ℕ) (at : ℕ) (items before : List WireItem) → AreTyped items → stand kinds before items ≡ true → items_behind kinds before (placed at (map entry_of items)) ≡ Ok (before ++ items)
+items_behind_again : (kinds : List ℕ) (at : ℕ) (items before : List WireItem) → AreTyped items → stand kinds before items ≡ true → items_behind kinds before (placed at (map wire_entry items)) ≡ Ok (before ++ items)
 items_behind_again kinds at [] before fits stands = behind_end kinds before ∙ ap (λ (l : List WireItem). Ok l) (sym (append-nil before))
 items_behind_again kinds at (item ∷ items) before fits stands =
-    let a = both (may_follow kinds before (kind_of item) && has_form item) (stand kinds (before ++ item ∷ []) items) stands in
-    let b = both (may_follow kinds before (kind_of item)) (has_form item) a.0 in
-    let here : item_behind kinds before (entry_of item) ≡ Some item = ap (λ (t : Bool). cond t (item_in (kind_of item) (body_of item)) None) b.0 ∙ item_said_again item fits.0 b.1 in
-    let next = at + length (spelling (entry_of item)) in
-    behind_some kinds before (entry_of item) at (placed next (map entry_of items)) item here
+    let a = both_true (item_may_follow kinds before (kind_of item) && has_form item) (stand kinds (before ++ item ∷ []) items) stands in
+    let b = both_true (item_may_follow kinds before (kind_of item)) (has_form item) a.0 in
+    let here : item_behind kinds before (wire_entry item) ≡ Some item = ap (λ (t : Bool). cond t (item_in (kind_of item) (body_of item)) None) b.0 ∙ item_said_again item fits.0 b.1 in
+    let next = at + length (spelling (wire_entry item)) in
+    behind_some kinds before (wire_entry item) at (placed next (map wire_entry items)) item here
     ∙ items_behind_again kinds next items (before ++ item ∷ []) fits.1 a.1
     ∙ ap (λ (l : List WireItem). Ok l) (append_assoc before (item ∷ []) items)
 
@@ -162,19 +163,19 @@ kind_fits (NameAdd x y text) = omega arith
 kind_fits (NameRemove x y text) = omega arith
 kind_fits (NameChange x y text) = omega arith
 
-items_fit : (items : List WireItem) → length (spelled items) < 2 ^ 63 → AreItems (map entry_of items)
+items_fit : (items : List WireItem) → length (spelled items) < 2 ^ 63 → AreItems (map wire_entry items)
 items_fit [] few = tt
 items_fit (item ∷ items) few =
-    let len = length-append (spelling (entry_of item)) (spelled items) in
-    let one : length (spelling (entry_of item)) ≡ wire_length item = length_item item in
-    let body : length (body_of item) ≡ 8 * length (words_in item) + length (bytes_in item) = length_body (words_in item) (bytes_in item) in
+    let len = length-append (spelling (wire_entry item)) (spelled items) in
+    let one : length (spelling (wire_entry item)) ≡ wire_length item = length_item item in
+    let body : length (body_of item) ≡ 8 * length (words_in item) + length (bytes_in item) = length-body (words_in item) (bytes_in item) in
     (record { kind = kind_fits item; size = omega (arith, len, one, body) }, items_fit items (omega (arith, len)))
 
 pub items_again : (kinds : List ℕ) (at : ℕ) (items : List WireItem) → AreTyped items → length (spelled items) < 2 ^ 63 → stand kinds [] items ≡ true → items_in kinds at (spelled items) ≡ Ok items
 unfolding items_in
 items_again kinds at items fits few stands =
-    let es = map entry_of items in
-    let e : spelled items ≡ spellings es = sym (flat_map-map spelling entry_of items) in
+    let es = map wire_entry items in
+    let e : spelled items ≡ spellings es = sym (flat_map-map spelling wire_entry items) in
     let apart : split (spelled items) ≡ (es, []) = ap split e ∙ split_again es (items_fit items few) in
     let nothing : (split (spelled items)).1 ≡ [] = ap (λ (p : List Entry × List ℕ). p.1) apart in
     let read : items_behind kinds [] (placed at (split (spelled items)).0) ≡ Ok items = ap (λ (p : List Entry × List ℕ). items_behind kinds [] (placed at p.0)) apart ∙ items_behind_again kinds at items [] fits stands in
@@ -204,7 +205,7 @@ laid bytes command caller flags own items size-fits command-fits caller-fits fla
     let last : drop (8 * length own) (drop 32 bytes) ≡ spelled items = behind_words own (spelled items) (drop 32 bytes) (8 * length own) refl behind in
     record {
       size_is = ap (λ l. nth l 0) front;
-      long_is = omega (arith, ap length parts, length-append (words head) rest, length_words head, length-append (words own) (spelled items), length_words own);
+      long_is = omega (arith, ap length parts, length-append (words head) rest, length-words head, length-append (words own) (spelled items), length-words own);
       command_is = ap (λ l. nth l 1) front;
       caller_is = ap (λ l. nth l 2) front;
       flags_is = ap (λ l. nth l 3) front;
@@ -214,7 +215,7 @@ laid bytes command caller flags own items size-fits command-fits caller-fits fla
 
 -- ---- commands
 
-pub count_is : (command : Command) → length (words_of command) ≡ word_count (opcode_in command)
+pub count_is : (command : Command) → length (command_words command) ≡ word_count (opcode_in command)
 count_is (commands.Hello flags pool send receive items) = refl
 count_is (commands.Send flags priority dst source payload_type cookie last items) = refl
 count_is (commands.Recv flags limit) = refl
@@ -235,7 +236,7 @@ count_is (commands.Seal payload) = refl
 count_is (commands.Unseal number) = refl
 count_is (commands.Enter creds) = refl
 
-pub named_again : (opcode : Opcode) → opcode_of (number_of opcode) ≡ Some opcode
+pub named_again : (opcode : Opcode) → opcode_of (opcode_number opcode) ≡ Some opcode
 named_again opcodes.Hello = refl
 named_again opcodes.Send = refl
 named_again opcodes.Recv = refl
@@ -256,7 +257,7 @@ named_again opcodes.Seal = refl
 named_again opcodes.Unseal = refl
 named_again opcodes.Enter = refl
 
-number_fits : (opcode : Opcode) → number_of opcode < 2 ^ 64
+number_fits : (opcode : Opcode) → opcode_number opcode < 2 ^ 64
 number_fits opcodes.Hello = omega arith
 number_fits opcodes.Send = omega arith
 number_fits opcodes.Recv = omega arith
@@ -306,7 +307,7 @@ unbroken opcodes.Seal frame long sized = le-ltb _ _ long
 unbroken opcodes.Unseal frame long sized = le-ltb _ _ long
 unbroken opcodes.Enter frame long sized = le-ltb _ _ long
 
-sized_frame : (command : Command) (frame : List ℕ) → length frame ≡ frame_length command → words_from (length (words_of command)) 0 (drop 32 frame) ≡ words_of command → IsSizedFrame (opcode_in command) frame
+sized_frame : (command : Command) (frame : List ℕ) → length frame ≡ frame_length command → words_from (length (command_words command)) 0 (drop 32 frame) ≡ command_words command → IsSizedFrame (opcode_in command) frame
 sized_frame (commands.Send flags priority dst source payload_type cookie last items) frame len own =
     let first : number (drop 32 frame) ≡ 64 + length (spelled items) = ap (λ l. nth l 0) own in
     omega (arith, first, len)
@@ -330,10 +331,10 @@ sized_frame (commands.Unseal number) frame len own = tt
 sized_frame (commands.Enter creds) frame len own = tt
 
 pub laid_frame : (bytes : List ℕ) (caller : ℕ) (command : Command) → IsTyped command → caller < 2 ^ 64 → IsWellFormed command → bytes ≡ frame_of caller command
-    → Laid bytes (number_of (opcode_in command)) caller (flags_of command) (words_of command) (items_of command)
+    → Laid bytes (opcode_number (opcode_in command)) caller (flags_of command) (command_words command) (items_of command)
 laid_frame bytes caller command typed fits formed e =
     let size : frame_length command ≤ 131072 = formed.size in
-    laid bytes (number_of (opcode_in command)) caller (flags_of command) (words_of command) (items_of command) (omega (arith, size)) (number_fits (opcode_in command)) fits typed.flags typed.words e
+    laid bytes (opcode_number (opcode_in command)) caller (flags_of command) (command_words command) (items_of command) (omega (arith, size)) (number_fits (opcode_in command)) fits typed.flags typed.words e
 
 -- the items of a frame are read again
 pub frame_items : (bytes : List ℕ) (caller : ℕ) (command : Command) → IsTyped command → caller < 2 ^ 64 → IsWellFormed command → bytes ≡ frame_of caller command
@@ -349,26 +350,26 @@ frame_items bytes caller command typed fits formed e =
 
 -- the words of a frame are read again
 pub frame_words : (bytes : List ℕ) (caller : ℕ) (command : Command) → IsTyped command → caller < 2 ^ 64 → IsWellFormed command → bytes ≡ frame_of caller command
-    → own_words (opcode_in command) (drop 32 bytes) ≡ words_of command
+    → own_words (opcode_in command) (drop 32 bytes) ≡ command_words command
 frame_words bytes caller command typed fits formed e =
     let l = laid_frame bytes caller command typed fits formed e in
     ap (λ n. words_from n 0 (drop 32 bytes)) (sym (count_is command)) ∙ l.own_is
 
-no_refusal : (port : Port) (opcode : Opcode) (frame : List ℕ) (items : List WireItem) → admits port (caller_word frame) ≡ true → has_broken_words opcode frame ≡ false → items_in (kinds_of opcode (flags_word frame)) (items_at opcode) (drop (items_at opcode) frame) ≡ Ok items
+no_refusal : (port : Port) (opcode : Opcode) (frame : List ℕ) (items : List WireItem) → takes_caller port (caller_word frame) ≡ true → has_broken_words opcode frame ≡ false → items_in (kinds_of opcode (flags_word frame)) (items_at opcode) (drop (items_at opcode) frame) ≡ Ok items
     → flaw_of opcode (flags_word frame) (own_words opcode (drop 32 frame)) items ≡ None → refusal_in port opcode frame ≡ None
 no_refusal port opcode frame items admitted whole read flawless = rw (admitted, whole, read) flawless
 
-pub not_refused : (port : Port) (bytes : List ℕ) (caller : ℕ) (command : Command) → IsTyped command → caller < 2 ^ 64 → admits port caller ≡ true → runs port (opcode_in command) ≡ true → IsWellFormed command → bytes ≡ frame_of caller command → refusal_of port bytes ≡ None
+pub not_refused : (port : Port) (bytes : List ℕ) (caller : ℕ) (command : Command) → IsTyped command → caller < 2 ^ 64 → takes_caller port caller ≡ true → takes_opcode port (opcode_in command) ≡ true → IsWellFormed command → bytes ≡ frame_of caller command → refusal_of port bytes ≡ None
 not_refused port bytes caller command typed fits admitted running formed e =
     let l = laid_frame bytes caller command typed fits formed e in
     let opcode = opcode_in command in
     let items = items_of command in
     let own = frame_words bytes caller command typed fits formed e in
     let named : opcode_of (command_word bytes) ≡ Some opcode = ap opcode_of l.command_is ∙ named_again opcode in
-    let long : length bytes ≡ 32 + 8 * length (words_of command) + length (spelled items) = l.long_is in
+    let long : length bytes ≡ 32 + 8 * length (command_words command) + length (spelled items) = l.long_is in
     let whole : has_broken_words opcode bytes ≡ false = unbroken opcode bytes (omega (arith, long, count_is command)) (sized_frame command bytes long l.own_is) in
     let flawless : flaw_of opcode (flags_word bytes) (own_words opcode (drop 32 bytes)) items ≡ None = ap (λ n. flaw_of opcode n (own_words opcode (drop 32 bytes)) items) l.flags_is ∙ ap (λ ws. flaw_of opcode (flags_of command) ws items) own ∙ formed.values in
-    is_run port opcode bytes (sym named) running ∙ no_refusal port opcode bytes items (ap (admits port) l.caller_is ∙ admitted) whole (frame_items bytes caller command typed fits formed e) flawless
+    opcode_taken port opcode bytes (sym named) running ∙ no_refusal port opcode bytes items (ap (takes_caller port) l.caller_is ∙ admitted) whole (frame_items bytes caller command typed fits formed e) flawless
 
 -- ---- one value for a frame
 
@@ -402,7 +403,7 @@ bit_again : (b : Bool) → eqb (bit b) 1 ≡ b
 bit_again true = refl
 bit_again false = refl
 
-with_again : (command : Command) → HasSigned command → command_with (opcode_in command) (flags_of command) (words_of command) (items_of command) ≡ command
+with_again : (command : Command) → HasSigned command → command_with (opcode_in command) (flags_of command) (command_words command) (items_of command) ≡ command
 unfolding command_with text_in
 with_again (commands.Hello flags pool send receive items) signed = refl
 with_again (commands.Send flags priority dst source payload_type cookie last items) signed = ap (λ z. commands.Send flags z dst source payload_type cookie last items) (to_z-of_z w64 priority signed)
@@ -442,11 +443,11 @@ one_value bytes caller other command second typed typed2 fits fits2 formed forme
     let o2 = opcode_in second in
     let opcode : o ≡ o2 = opcode_ok o o2 (sym (named_again o) ∙ ap opcode_of (sym l.command_is ∙ l2.command_is) ∙ named_again o2) in
     let flags : flags_of command ≡ flags_of second = sym l.flags_is ∙ l2.flags_is in
-    let own : words_of command ≡ words_of second = sym (frame_words bytes caller command typed fits formed e) ∙ ap (λ x. own_words x (drop 32 bytes)) opcode ∙ frame_words bytes other second typed2 fits2 formed2 e2 in
+    let own : command_words command ≡ command_words second = sym (frame_words bytes caller command typed fits formed e) ∙ ap (λ x. own_words x (drop 32 bytes)) opcode ∙ frame_words bytes other second typed2 fits2 formed2 e2 in
     let read = frame_items bytes caller command typed fits formed e in
     let read2 = frame_items bytes other second typed2 fits2 formed2 e2 in
     let items : items_of command ≡ items_of second = ok_is (items_of command) (items_of second) (sym read ∙ ap (λ x. items_in (kinds_of x (flags_word bytes)) (items_at x) (drop (items_at x) bytes)) opcode ∙ read2) in
-    let same : command_with o (flags_of command) (words_of command) (items_of command) ≡ command_with o2 (flags_of second) (words_of second) (items_of second) = rw (opcode, flags, own, items) refl in
+    let same : command_with o (flags_of command) (command_words command) (items_of command) ≡ command_with o2 (flags_of second) (command_words second) (items_of second) = rw (opcode, flags, own, items) refl in
     (sym l.caller_is ∙ l2.caller_is, sym (with_again command typed.signed) ∙ same ∙ with_again second typed2.signed)
 
 -- no frame is the beginning of another
@@ -457,8 +458,8 @@ not_beginning caller other command second rest typed typed2 fits fits2 formed fo
     let l2 = laid_frame (frame_of other second) other second typed2 fits2 formed2 refl in
     let size = frame_length command in
     let small : size ≤ 131072 = formed.size in
-    let head = size ∷ number_of (opcode_in command) ∷ caller ∷ flags_of command ∷ [] in
-    let more = words (words_of command) ++ spelled (items_of command) ++ rest in
+    let head = size ∷ opcode_number (opcode_in command) ∷ caller ∷ flags_of command ∷ [] in
+    let more = words (command_words command) ++ spelled (items_of command) ++ rest in
     let parts : bytes ++ rest ≡ words head ++ more = simp append_assoc in
     let front : words_from 4 0 (bytes ++ rest) ≡ head = words_here head more (bytes ++ rest) (omega arith, (number_fits (opcode_in command), (fits, (typed.flags, tt)))) parts in
     let first : number (bytes ++ rest) ≡ size = ap (λ ws. nth ws 0) front in

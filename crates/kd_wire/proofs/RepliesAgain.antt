@@ -9,6 +9,8 @@ use Rattle.kd_item.specs.Spelling.{Fits, words, number, padding, item_length, sp
 use Rattle.kd_item.specs.Reading.{are_zeros}
 use Rattle.kd_item.proofs.Zeros.{zeros_pass}
 use Rattle.kd_item.proofs.OneItem.{item_again}
+use Rattle.kd_item.proofs.Words.{length-words}
+use Rattle.kd_item.proofs.Sizes.{length-body}
 use Rattle.kd_types.specs.declared.reply_error.ReplyError.TheVariants.{Bad}
 use Rattle.kd_types.specs.declared.refusal.Refusal.{Refusal}
 use Rattle.kd_types.specs.declared.refusal.Refusal.TheVariants.{Malformed, Unsupported, BadFlags, MissingItem, DoubledItem, BadName, NotPermitted, NoSuchName, NoSuchConnection, NameMoved, NameTaken, AlreadyOwned, NotOwner, TooMany, PoolFull, Quota, NotStarted, NoMessage, NoSuchPriority, NoSuchSlice, NotReceived, Busy, BloomSize, TooLong, BroadcastMisuse, NoSuchBus, BusExists, WrongPrefix, NoSuchEndpoint, EndpointExists, WrongState, MessagesQueued, NoSuchMatch, NoSuchSeal, BadCookie, SlicesSpent, TurnsSpent, OutOfMemory}
@@ -18,14 +20,14 @@ use Rattle.kd_wire.specs.declared.opcode.Opcode.TheVariants as opcodes
 use Rattle.kd_wire.specs.declared.reply.ListedItem.{ListedItem}
 use Rattle.kd_wire.specs.declared.reply.Reply.{Reply}
 use Rattle.kd_wire.specs.declared.reply.Reply.TheVariants as replies
-use Rattle.kd_wire.specs.Opcodes.{number_of, opcode_of}
+use Rattle.kd_wire.specs.Opcodes.{opcode_number, opcode_of}
 use Rattle.kd_wire.specs.Kinds.{nth}
 use Rattle.kd_wire.specs.Frames.{command_word, caller_word}
 use Rattle.kd_wire.specs.Refusals.{words_from}
-use Rattle.kd_wire.specs.Replies.{listed_entry, listing, code_of, words_of, tail_of, reply_length, reply_frame, Answers}
-use Rattle.kd_wire.specs.ReplyReading.{code_word, head_break, words_break, unbroken, with_words, acquired_in, run_of, read_in, line_in, lines_in, listed, listing_in, answer_in, refusal_from, if_alone, refused_in, done_in, behind_head, head_then, reply_in}
+use Rattle.kd_wire.specs.Replies.{listed_entry, listing_bytes, code_of, reply_words, tail_of, reply_length, reply_frame, IsReplyTo}
+use Rattle.kd_wire.specs.ReplyReading.{code_word, head_break, words_break, unbroken, with_words, acquired_in, run_of, read_in, line_in, lines_in, listed_reply, listing_in, answer_in, refusal_from, if_alone, refused_in, done_in, behind_head, head_then, reply_in}
 use Rattle.kd_wire.specs.Typed.{AreWords, IsTypedLine, IsTypedReply}
-use Rattle.kd_wire.proofs.Lengths.{length_words, length_body, length_line}
+use Rattle.kd_wire.proofs.Lengths.{length_line}
 use Rattle.kd_wire.proofs.ReadAgain.{words_again, words_here, behind_words, named_again}
 use Rattle.kd_wire.proofs.ReplyLaws.{lines_more}
 
@@ -44,10 +46,10 @@ record Laid (bytes : List ℕ) (command caller : ℕ) (reply : Reply) : Type 0 w
   command_is : command_word bytes ≡ command
   caller_is : caller_word bytes ≡ caller
   code_is : code_word bytes ≡ code_of reply
-  own_are : words_from (length (words_of reply)) 32 bytes ≡ words_of reply
-  behind : drop 32 bytes ≡ words (words_of reply) ++ tail_of reply
+  own_are : words_from (length (reply_words reply)) 32 bytes ≡ reply_words reply
+  behind : drop 32 bytes ≡ words (reply_words reply) ++ tail_of reply
 
-number_small : (refusal : Refusal) → refusals.number_of refusal < 2 ^ 64
+number_small : (refusal : Refusal) → refusals.refusal_number refusal < 2 ^ 64
 number_small (Malformed x) = omega arith
 number_small (Unsupported x) = omega arith
 number_small BadFlags = omega arith
@@ -109,22 +111,22 @@ code_fits replies.Unseal = omega arith
 code_fits replies.Enter = omega arith
 code_fits (replies.Refused refusal) = number_small refusal
 
-laid : (bytes : List ℕ) (command caller : ℕ) (reply : Reply) → command < 2 ^ 64 → caller < 2 ^ 64 → AreWords (words_of reply) → reply_length reply < 2 ^ 64 → bytes ≡ reply_frame command caller reply → Laid bytes command caller reply
+laid : (bytes : List ℕ) (command caller : ℕ) (reply : Reply) → command < 2 ^ 64 → caller < 2 ^ 64 → AreWords (reply_words reply) → reply_length reply < 2 ^ 64 → bytes ≡ reply_frame command caller reply → Laid bytes command caller reply
 laid bytes command caller reply command-fits caller-fits own-fits size-fits e =
     let size = reply_length reply in
     let head = size ∷ command ∷ caller ∷ code_of reply ∷ [] in
-    let rest = words (words_of reply) ++ tail_of reply in
-    let parts : bytes ≡ words head ++ rest = e ∙ append_assoc (words head) (words (words_of reply)) (tail_of reply) in
+    let rest = words (reply_words reply) ++ tail_of reply in
+    let parts : bytes ≡ words head ++ rest = e ∙ append_assoc (words head) (words (reply_words reply)) (tail_of reply) in
     let front : words_from 4 0 bytes ≡ head = words_here head rest bytes (size-fits, (command-fits, (caller-fits, (code_fits reply, tt)))) parts in
     let after : drop 32 bytes ≡ rest = behind_words head rest bytes 32 refl parts in
-    let long : length bytes ≡ size = omega (arith, ap length parts, length-append (words head) rest, length_words head, length-append (words (words_of reply)) (tail_of reply), length_words (words_of reply)) in
+    let long : length bytes ≡ size = omega (arith, ap length parts, length-append (words head) rest, length-words head, length-append (words (reply_words reply)) (tail_of reply), length-words (reply_words reply)) in
     record {
       size_is = ap (λ l. nth l 0) front ∙ sym long;
       long_is = long;
       command_is = ap (λ l. nth l 1) front;
       caller_is = ap (λ l. nth l 2) front;
       code_is = ap (λ l. nth l 3) front;
-      own_are = shifted_by (length (words_of reply)) 0 32 bytes ∙ words_here (words_of reply) (tail_of reply) (drop 32 bytes) own-fits after;
+      own_are = shifted_by (length (reply_words reply)) 0 32 bytes ∙ words_here (reply_words reply) (tail_of reply) (drop 32 bytes) own-fits after;
       behind = after;
     }
 
@@ -180,7 +182,7 @@ read_again : (bytes run : List ℕ) → number (drop 32 bytes) ≡ length run �
 read_again bytes run count e =
     let rest : List ℕ = run ++ replicate (padding (length run)) 0 in
     let after : drop 40 bytes ≡ rest = sym (drop-drop 8 32 bytes) ∙ behind_words (length run ∷ []) rest (drop 32 bytes) 8 refl e in
-    let long : ltb (length bytes) 40 ≡ false = le-ltb _ _ (omega (arith, ap length e, length_body (length run ∷ []) rest, length-drop 32 bytes)) in
+    let long : ltb (length bytes) 40 ≡ false = le-ltb _ _ (omega (arith, ap length e, length-body (length run ∷ []) rest, length-drop 32 bytes)) in
     ap (λ (b : Bool). cond b (Err (Bad 32)) (run_of (number (drop 32 bytes)) (drop 40 bytes))) long ∙ run_again run (drop 40 bytes) (number (drop 32 bytes)) count after
 
 -- ---- lines
@@ -198,33 +200,33 @@ line_again line typed =
     let body = words ws ++ line.name in
     let read : words_from 2 0 body ≡ ws = words_again ws line.name typed.words in
     let behind : drop 16 body ≡ line.name = behind_words ws line.name body 16 refl refl in
-    line_of body line (omega (arith, length_body ws line.name)) (ap (λ l. nth l 0) read) (ap (λ l. nth l 1) read) behind typed.text
+    line_of body line (omega (arith, length-body ws line.name)) (ap (λ l. nth l 0) read) (ap (λ l. nth l 1) read) behind typed.text
 
-lines_again : (lines before : List ListedItem) (at : ℕ) → AllByRecursion IsTypedLine lines → length (listing lines) < 2 ^ 63 → lines_in (length lines) at before (listing lines) ≡ Ok (before ++ lines)
+lines_again : (lines before : List ListedItem) (at : ℕ) → AllByRecursion IsTypedLine lines → length (listing_bytes lines) < 2 ^ 63 → lines_in (length lines) at before (listing_bytes lines) ≡ Ok (before ++ lines)
 unfolding lines_in
 lines_again [] before at typed few = ap (λ l. Ok l) (sym (append-nil before))
 lines_again (line ∷ lines) before at typed few =
     let e = listed_entry line in
-    let rest = listing lines in
+    let rest = listing_bytes lines in
     let len = length-append (spelling e) rest in
     let one : length (spelling e) ≡ item_length (16 + length line.name) = length_line line in
-    let body : length e.body ≡ 16 + length line.name = length_body (line.id ∷ line.standing ∷ []) line.name in
+    let body : length e.body ≡ 16 + length line.name = length-body (line.id ∷ line.standing ∷ []) line.name in
     let fits : Fits e = record { kind = omega arith; size = omega (arith, len, one, body) } in
     lines_more (length lines) at before (spelling e ++ rest) (e, rest) line (item_again e rest fits) (line_again line typed.0)
     ∙ lines_again lines (before ++ line ∷ []) (at + (length (spelling e ++ rest) - length rest)) typed.1 (omega (arith, len))
     ∙ ap (λ l. Ok l) (append_assoc before (line ∷ []) lines)
 
-listing_again : (bytes : List ℕ) (lines : List ListedItem) → AllByRecursion IsTypedLine lines → reply_length (replies.NameList lines) < 2 ^ 63 → number (drop 32 bytes) ≡ length lines → drop 32 bytes ≡ words (length lines ∷ []) ++ listing lines → listing_in bytes ≡ Ok (replies.NameList lines)
+listing_again : (bytes : List ℕ) (lines : List ListedItem) → AllByRecursion IsTypedLine lines → reply_length (replies.NameList lines) < 2 ^ 63 → number (drop 32 bytes) ≡ length lines → drop 32 bytes ≡ words (length lines ∷ []) ++ listing_bytes lines → listing_in bytes ≡ Ok (replies.NameList lines)
 listing_again bytes lines typed few count e =
-    let rest = listing lines in
+    let rest = listing_bytes lines in
     let after : drop 40 bytes ≡ rest = sym (drop-drop 8 32 bytes) ∙ behind_words (length lines ∷ []) rest (drop 32 bytes) 8 refl e in
-    let long : ltb (length bytes) 40 ≡ false = le-ltb _ _ (omega (arith, ap length e, length_body (length lines ∷ []) rest, length-drop 32 bytes)) in
+    let long : ltb (length bytes) 40 ≡ false = le-ltb _ _ (omega (arith, ap length e, length-body (length lines ∷ []) rest, length-drop 32 bytes)) in
     let read : lines_in (number (drop 32 bytes)) 40 [] (drop 40 bytes) ≡ Ok lines = ap (λ n. lines_in n 40 [] (drop 40 bytes)) count ∙ ap (lines_in (length lines) 40 []) after ∙ lines_again lines [] 40 typed (omega (arith, few)) in
-    ap (λ (b : Bool). cond b (Err (Bad 32)) (listed (lines_in (number (drop 32 bytes)) 40 [] (drop 40 bytes)))) long ∙ ap listed read
+    ap (λ (b : Bool). cond b (Err (Bad 32)) (listed_reply (lines_in (number (drop 32 bytes)) 40 [] (drop 40 bytes)))) long ∙ ap listed_reply read
 
 -- ---- refusals
 
-refusal_again : (refusal : Refusal) → refusal ≢ OutOfMemory → refusal_from (refusals.number_of refusal) (refusals.value_of refusal) ≡ Some refusal
+refusal_again : (refusal : Refusal) → refusal ≢ OutOfMemory → refusal_from (refusals.refusal_number refusal) (refusals.refusal_value refusal) ≡ Some refusal
 refusal_again (Malformed x) named = refl
 refusal_again (Unsupported x) named = refl
 refusal_again BadFlags named = refl
@@ -264,7 +266,7 @@ refusal_again SlicesSpent named = refl
 refusal_again TurnsSpent named = refl
 refusal_again OutOfMemory named = absurd (named refl)
 
-some_code : (refusal : Refusal) → refusal ≢ OutOfMemory → (refusals.number_of refusal ≡ 0 → ⊥) × (refusals.number_of refusal ≤ 37)
+some_code : (refusal : Refusal) → refusal ≢ OutOfMemory → (refusals.refusal_number refusal ≡ 0 → ⊥) × (refusals.refusal_number refusal ≤ 37)
 some_code (Malformed x) named = (λ e. omega (arith, e), omega arith)
 some_code (Unsupported x) named = (λ e. omega (arith, e), omega arith)
 some_code BadFlags named = (λ e. omega (arith, e), omega arith)
@@ -304,27 +306,27 @@ some_code SlicesSpent named = (λ e. omega (arith, e), omega arith)
 some_code TurnsSpent named = (λ e. omega (arith, e), omega arith)
 some_code OutOfMemory named = absurd (named refl)
 
-refused_again : (bytes : List ℕ) (refusal : Refusal) → refusal ≢ OutOfMemory → length bytes ≡ 40 → number (drop 32 bytes) ≡ refusals.value_of refusal → refused_in (refusals.number_of refusal) bytes ≡ Ok (replies.Refused refusal)
+refused_again : (bytes : List ℕ) (refusal : Refusal) → refusal ≢ OutOfMemory → length bytes ≡ 40 → number (drop 32 bytes) ≡ refusals.refusal_value refusal → refused_in (refusals.refusal_number refusal) bytes ≡ Ok (replies.Refused refusal)
 refused_again bytes refusal named len e =
-    let known : refusals.number_of refusal ≤ 37 = (some_code refusal named).1 in
-    let a : ltb 37 (refusals.number_of refusal) ≡ false = le-ltb _ _ known in
+    let known : refusals.refusal_number refusal ≤ 37 = (some_code refusal named).1 in
+    let a : ltb 37 (refusals.refusal_number refusal) ≡ false = le-ltb _ _ known in
     let low : ltb (length bytes) 40 ≡ false = le-ltb _ _ (omega (arith, len)) in
     let high : ltb 40 (length bytes) ≡ false = le-ltb _ _ (omega (arith, len)) in
-    let found : refusal_from (refusals.number_of refusal) (number (drop 32 bytes)) ≡ Some refusal = ap (refusal_from (refusals.number_of refusal)) e ∙ refusal_again refusal named in
-    ap (λ (b : Bool). cond b (Err (Bad 24)) (cond (ltb (length bytes) 40) (Err (Bad 32)) (if_alone bytes (refusal_from (refusals.number_of refusal) (number (drop 32 bytes)))))) a
-    ∙ ap (λ (b : Bool). cond b (Err (Bad 32)) (if_alone bytes (refusal_from (refusals.number_of refusal) (number (drop 32 bytes))))) low
+    let found : refusal_from (refusals.refusal_number refusal) (number (drop 32 bytes)) ≡ Some refusal = ap (refusal_from (refusals.refusal_number refusal)) e ∙ refusal_again refusal named in
+    ap (λ (b : Bool). cond b (Err (Bad 24)) (cond (ltb (length bytes) 40) (Err (Bad 32)) (if_alone bytes (refusal_from (refusals.refusal_number refusal) (number (drop 32 bytes)))))) a
+    ∙ ap (λ (b : Bool). cond b (Err (Bad 32)) (if_alone bytes (refusal_from (refusals.refusal_number refusal) (number (drop 32 bytes))))) low
     ∙ ap (if_alone bytes) found
     ∙ ap (λ (b : Bool). cond b (Err (Bad 40)) (Ok (replies.Refused refusal))) high
 
 -- ---- all replies
 
-done_again : (bytes : List ℕ) (command : ℕ) (opcode : Opcode) (reply : Reply) → command_word bytes ≡ command → code_word bytes ≡ 0 → command ≡ number_of opcode → answer_in opcode bytes ≡ Ok reply → behind_head bytes ≡ Ok reply
+done_again : (bytes : List ℕ) (command : ℕ) (opcode : Opcode) (reply : Reply) → command_word bytes ≡ command → code_word bytes ≡ 0 → command ≡ opcode_number opcode → answer_in opcode bytes ≡ Ok reply → behind_head bytes ≡ Ok reply
 done_again bytes command opcode reply command-is code-is named e =
     let done : eqb (code_word bytes) 0 ≡ true = eq-eqb _ _ code-is in
     let found : opcode_of (command_word bytes) ≡ Some opcode = ap opcode_of (command-is ∙ named) ∙ named_again opcode in
     ap (λ (b : Bool). cond b (done_in (opcode_of (command_word bytes)) bytes) (refused_in (code_word bytes) bytes)) done ∙ ap (λ (o : Option Opcode). done_in o bytes) found ∙ e
 
-behind_again : (bytes : List ℕ) (command caller : ℕ) (reply : Reply) → IsTypedReply reply → Answers command reply → reply_length reply < 2 ^ 63 → Laid bytes command caller reply → behind_head bytes ≡ Ok reply
+behind_again : (bytes : List ℕ) (command caller : ℕ) (reply : Reply) → IsTypedReply reply → IsReplyTo command reply → reply_length reply < 2 ^ 63 → Laid bytes command caller reply → behind_head bytes ≡ Ok reply
 behind_again bytes command caller (replies.Hello id size hashes) typed answers few l = done_again bytes command opcodes.Hello (replies.Hello id size hashes) l.command_is l.code_is answers (words_answer 3 bytes (replies.Hello id size hashes) _ l.long_is (three_words replies.Hello _ _ _ id size hashes l.own_are))
 behind_again bytes command caller replies.Send typed answers few l = done_again bytes command opcodes.Send replies.Send l.command_is l.code_is answers (words_answer 0 bytes replies.Send replies.Send l.long_is refl)
 behind_again bytes command caller (replies.Recv number offset size dropped) typed answers few l = done_again bytes command opcodes.Recv (replies.Recv number offset size dropped) l.command_is l.code_is answers (words_answer 4 bytes (replies.Recv number offset size dropped) _ l.long_is (four_words replies.Recv _ _ _ _ number offset size dropped l.own_are))
@@ -345,12 +347,12 @@ behind_again bytes command caller (replies.Seal number) typed answers few l = do
 behind_again bytes command caller replies.Unseal typed answers few l = done_again bytes command opcodes.Unseal replies.Unseal l.command_is l.code_is answers (words_answer 0 bytes replies.Unseal replies.Unseal l.long_is refl)
 behind_again bytes command caller replies.Enter typed answers few l = done_again bytes command opcodes.Enter replies.Enter l.command_is l.code_is answers (words_answer 0 bytes replies.Enter replies.Enter l.long_is refl)
 behind_again bytes command caller (replies.Refused refusal) typed answers few l =
-    let code : eqb (code_word bytes) 0 ≡ false = ap (λ n. eqb n 0) l.code_is ∙ ne_eqb (refusals.number_of refusal) 0 (some_code refusal answers).0 in
+    let code : eqb (code_word bytes) 0 ≡ false = ap (λ n. eqb n 0) l.code_is ∙ ne_eqb (refusals.refusal_number refusal) 0 (some_code refusal answers).0 in
     ap (λ (b : Bool). cond b (done_in (opcode_of (command_word bytes)) bytes) (refused_in (code_word bytes) bytes)) code
     ∙ ap (λ n. refused_in n bytes) l.code_is
     ∙ refused_again bytes refusal answers l.long_is (ap (λ w. nth w 0) l.own_are)
 
-pub reply_again : (bytes : List ℕ) (command caller : ℕ) (reply : Reply) → IsTypedReply reply → command < 2 ^ 64 → caller < 2 ^ 64 → Answers command reply → reply_length reply < 2 ^ 63 → bytes ≡ reply_frame command caller reply → reply_in bytes ≡ Ok reply
+pub reply_again : (bytes : List ℕ) (command caller : ℕ) (reply : Reply) → IsTypedReply reply → command < 2 ^ 64 → caller < 2 ^ 64 → IsReplyTo command reply → reply_length reply < 2 ^ 63 → bytes ≡ reply_frame command caller reply → reply_in bytes ≡ Ok reply
 unfolding reply_in
 reply_again bytes command caller reply typed command-fits caller-fits answers few e =
     let l = laid bytes command caller reply command-fits caller-fits typed.words (omega (arith, few)) e in

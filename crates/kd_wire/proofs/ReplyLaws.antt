@@ -3,11 +3,13 @@ use Rattle.std.proofs.Common.{◌≡◌, ℕ, zero, suc, ◌+◌, ◌*◌, ◌-�
 use Rattle.std.specs.Str.{is_utf8}
 use Rattle.std.proofs.lemmas.Bool.{eqb-true, eqb-false, ne_eqb, ltb-false, leb-true}
 use Rattle.std.proofs.lemmas.List.{append-nil, nil_from_length, take-append-drop, drop-drop, length-take-le}
+use Rattle.kd_model.proofs.Truth.{not_false, both_true, option_cases, same_some, let_through}
 use Rattle.kd_item.specs.Spelling.{Entry, words, number, padding, spelling}
 use Rattle.kd_item.specs.Reading.{item_at, are_zeros}
 use Rattle.kd_item.proofs.Zeros.{zeros_back}
-use Rattle.kd_item.proofs.Words.{IsBytes, IsBytes-drop}
+use Rattle.kd_item.proofs.Words.{IsBytes, IsBytes-drop, IsBytes-front}
 use Rattle.kd_item.proofs.Splits.{item_takes}
+use Rattle.kd_item.proofs.Sizes.{length-body, body_bytes}
 use Rattle.kd_types.specs.declared.reply_error.ReplyError.{ReplyError}
 use Rattle.kd_types.specs.declared.reply_error.ReplyError.TheVariants.{Bad}
 use Rattle.kd_types.specs.declared.refusal.Refusal.{Refusal}
@@ -18,21 +20,18 @@ use Rattle.kd_wire.specs.declared.opcode.Opcode.TheVariants as opcodes
 use Rattle.kd_wire.specs.declared.reply.ListedItem.{ListedItem}
 use Rattle.kd_wire.specs.declared.reply.Reply.{Reply}
 use Rattle.kd_wire.specs.declared.reply.Reply.TheVariants.{Hello, Send, Recv, Read, Free, Byebye, Close, NameAcquire, NameRelease, NameList, MatchAdd, MatchRemove, PolicySet, EndpointMake, MakeBus, Tick, Seal, Unseal, Enter, Refused}
-use Rattle.kd_wire.specs.Opcodes.{number_of, opcode_of}
+use Rattle.kd_wire.specs.Opcodes.{opcode_number, opcode_of}
 use Rattle.kd_wire.specs.Frames.{command_word, caller_word}
 use Rattle.kd_wire.specs.Refusals.{words_from}
-use Rattle.kd_wire.specs.Replies.{listed_entry, listing, code_of, words_of, tail_of, reply_length, reply_frame, Answers}
-use Rattle.kd_wire.specs.ReplyReading.{code_word, head_break, words_break, unbroken, with_words, acquired_in, run_of, read_in, line_in, lines_in, listed, listing_in, answer_in, bare_refusal, refusal_from, if_alone, refused_in, done_in, behind_head, head_then, reply_in}
+use Rattle.kd_wire.specs.Replies.{listed_entry, listing_bytes, code_of, reply_words, tail_of, reply_length, reply_frame, IsReplyTo}
+use Rattle.kd_wire.specs.ReplyReading.{code_word, head_break, words_break, unbroken, with_words, acquired_in, run_of, read_in, line_in, lines_in, listed_reply, listing_in, answer_in, bare_refusal, refusal_from, if_alone, refused_in, done_in, behind_head, head_then, reply_in}
 use Rattle.kd_wire.proofs.WordLaws.{words_back, words_split}
-use Rattle.kd_wire.proofs.Lengths.{length_body}
-use Rattle.kd_wire.proofs.ItemLaws.{bytes_left, body_bytes, option_cases}
-use Rattle.kd_wire.proofs.Parts as parts
 
 -- what stands behind the head of the bytes is the rest of this reply
 pub record Body (bytes : List ℕ) (command code : ℕ) (reply : Reply) : Type 0 where
-  pub rest : drop 32 bytes ≡ words (words_of reply) ++ tail_of reply
+  pub rest : drop 32 bytes ≡ words (reply_words reply) ++ tail_of reply
   pub code_is : code_of reply ≡ code
-  pub answers : Answers command reply
+  pub answers : IsReplyTo command reply
 
 abbrev done : Reply → Result Reply ReplyError
 done reply = Ok reply
@@ -43,14 +42,10 @@ broken at = Err (Bad at)
 done_is : (x y : Reply) → done x ≡ done y → x ≡ y
 done_is x y e = cc
 
--- a test that let a value through
-passes : (b : Bool) (at : ℕ) (r : Result Reply ReplyError) (reply : Reply) → cond b (broken at) r ≡ Ok reply → (b ≡ false) × (r ≡ Ok reply)
-passes true at r reply e = absurd cc
-passes false at r reply e = (refl, e)
-
-holds : (b : Bool) (at : ℕ) (r : Result Reply ReplyError) (reply : Reply) → cond b r (broken at) ≡ Ok reply → (b ≡ true) × (r ≡ Ok reply)
-holds true at r reply e = (refl, e)
-holds false at r reply e = absurd cc
+-- a test that let an answer through
+past : (b : Bool) (at : ℕ) (r : Result Reply ReplyError) (reply : Reply) → cond b (broken at) r ≡ Ok reply → (b ≡ false) × (r ≡ Ok reply)
+past true at r reply e = absurd cc
+past false at r reply e = (refl, e)
 
 no_place : (b : Bool) (at : ℕ) (o : Option ℕ) → cond b (Some at) o ≡ None → (b ≡ false) × (o ≡ None)
 no_place true at o e = absurd cc
@@ -77,7 +72,7 @@ words_rest k bytes fits len =
     let nothing : drop (8 * k) own ≡ [] = nil_from_length (drop (8 * k) own) (omega (arith, length-drop (8 * k) own)) in
     sym (ap (λ (l : List ℕ). l ++ []) (words_back k 32 bytes (omega arith) fits) ∙ ap (λ (l : List ℕ). take (8 * k) own ++ l) (sym nothing) ∙ take-append-drop (8 * k) own)
 
-words_say : (k : ℕ) (bytes : List ℕ) (command : ℕ) (reply r : Reply) → IsBytes bytes → words_of reply ≡ words_from k 32 bytes → tail_of reply ≡ [] → code_of reply ≡ 0 → Answers command reply → with_words k bytes reply ≡ Ok r → Body bytes command 0 r
+words_say : (k : ℕ) (bytes : List ℕ) (command : ℕ) (reply r : Reply) → IsBytes bytes → reply_words reply ≡ words_from k 32 bytes → tail_of reply ≡ [] → code_of reply ≡ 0 → IsReplyTo command reply → with_words k bytes reply ≡ Ok r → Body bytes command 0 r
 words_say k bytes command reply r fits own tail code answers e =
     let a = words_done (words_break k bytes) reply r e in
     let rest = words_rest k bytes fits (exact_length k bytes a.0) in
@@ -89,18 +84,18 @@ two_values (suc zero) low high = refl
 two_values (suc (suc zero)) low high = refl
 two_values (suc (suc (suc n))) low high = absurd (omega arith)
 
-acquired_says : (bytes : List ℕ) (r : Reply) → IsBytes bytes → acquired_in bytes ≡ Ok r → Body bytes (number_of opcodes.NameAcquire) 0 r
+acquired_says : (bytes : List ℕ) (r : Reply) → IsBytes bytes → acquired_in bytes ≡ Ok r → Body bytes (opcode_number opcodes.NameAcquire) 0 r
 acquired_says bytes r fits e =
     let n = number (drop 32 bytes) in
-    let a = passes (ltb (length bytes) 40) 32 _ r e in
-    let b = passes (not (leb 1 n && leb n 2)) 32 _ r a.1 in
-    let c = passes (ltb 40 (length bytes)) 40 _ r b.1 in
-    let both = parts.both (leb 1 n) (leb n 2) (parts.un_not _ b.0) in
+    let a = past (ltb (length bytes) 40) 32 _ r e in
+    let b = past (not (leb 1 n && leb n 2)) 32 _ r a.1 in
+    let c = past (ltb 40 (length bytes)) 40 _ r b.1 in
+    let both = both_true (leb 1 n) (leb n 2) (not_false _ b.0) in
     let value : cond (eqb n 2) 2 1 ≡ n = two_values n (leb-true _ _ both.0) (leb-true _ _ both.1) in
     let low : 40 ≤ length bytes = ltb-false _ _ a.0 in
     let high : length bytes ≤ 40 = ltb-false _ _ c.0 in
     let rest = words_rest 1 bytes fits (omega arith) in
-    subst (λ x. Body bytes (number_of opcodes.NameAcquire) 0 x) (done_is (NameAcquire (eqb n 2)) r c.1) (record { rest = rest ∙ ap (λ k. words (k ∷ []) ++ []) (sym value); code_is = refl; answers = refl })
+    subst (λ x. Body bytes (opcode_number opcodes.NameAcquire) 0 x) (done_is (NameAcquire (eqb n 2)) r c.1) (record { rest = rest ∙ ap (λ k. words (k ∷ []) ++ []) (sym value); code_is = refl; answers = refl })
 
 -- ---- bytes
 
@@ -111,10 +106,10 @@ front_word bytes fits long =
 run_says : (count : ℕ) (rest : List ℕ) (r : Reply) → run_of count rest ≡ Ok r → (run : List ℕ) × (r ≡ Read run) × (length run ≡ count) × (rest ≡ run ++ replicate (padding (length run)) 0)
 run_says count rest r e =
     let zs = take (padding count) (drop count rest) in
-    let a = passes (ltb (length rest) count) 40 _ r e in
-    let b = passes (ltb (length rest) (count + padding count)) 40 _ r a.1 in
-    let c = holds (are_zeros zs) 40 _ r b.1 in
-    let d = passes (ltb (count + padding count) (length rest)) (40 + count + padding count) _ r c.1 in
+    let a = past (ltb (length rest) count) 40 _ r e in
+    let b = past (ltb (length rest) (count + padding count)) 40 _ r a.1 in
+    let c = past (not (are_zeros zs)) 40 _ r b.1 in
+    let d = past (ltb (count + padding count) (length rest)) (40 + count + padding count) _ r c.1 in
     let low : count + padding count ≤ length rest = ltb-false _ _ b.0 in
     let high : length rest ≤ count + padding count = ltb-false _ _ d.0 in
     let run = take count rest in
@@ -122,23 +117,19 @@ run_says count rest r e =
     let fill : length zs ≡ padding count = length-take-le (padding count) (drop count rest) (omega (arith, length-drop count rest)) in
     let nothing : drop (padding count) (drop count rest) ≡ [] = nil_from_length (drop (padding count) (drop count rest)) (omega (arith, length-drop (padding count) (drop count rest), length-drop count rest)) in
     let all : zs ≡ drop count rest = sym (append-nil zs) ∙ ap (λ (l : List ℕ). zs ++ l) (sym nothing) ∙ take-append-drop (padding count) (drop count rest) in
-    let zeros : zs ≡ replicate (padding (length run)) 0 = zeros_back zs c.0 ∙ ap (λ n. replicate n 0) (fill ∙ ap padding (sym len)) in
+    let zeros : zs ≡ replicate (padding (length run)) 0 = zeros_back zs (not_false (are_zeros zs) c.0) ∙ ap (λ n. replicate n 0) (fill ∙ ap padding (sym len)) in
     (run, sym (done_is (Read run) r d.1), len, sym (ap (λ (l : List ℕ). run ++ l) (sym zeros ∙ all) ∙ take-append-drop count rest))
 
-read_says : (bytes : List ℕ) (r : Reply) → IsBytes bytes → read_in bytes ≡ Ok r → Body bytes (number_of opcodes.Read) 0 r
+read_says : (bytes : List ℕ) (r : Reply) → IsBytes bytes → read_in bytes ≡ Ok r → Body bytes (opcode_number opcodes.Read) 0 r
 read_says bytes r fits e =
     let n = number (drop 32 bytes) in
-    let a = passes (ltb (length bytes) 40) 32 _ r e in
+    let a = past (ltb (length bytes) 40) 32 _ r e in
     let s = run_says n (drop 40 bytes) r a.1 in
     let front = front_word bytes fits (ltb-false _ _ a.0) in
     let rest : drop 32 bytes ≡ words (length s.0 ∷ []) ++ (s.0 ++ replicate (padding (length s.0)) 0) = front ∙ ap (λ k. words (k ∷ []) ++ drop 40 bytes) (sym s.2) ∙ ap (λ (l : List ℕ). words (length s.0 ∷ []) ++ l) s.3 in
-    subst (λ x. Body bytes (number_of opcodes.Read) 0 x) (sym s.1) (record { rest = rest; code_is = refl; answers = refl })
+    subst (λ x. Body bytes (opcode_number opcodes.Read) 0 x) (sym s.1) (record { rest = rest; code_is = refl; answers = refl })
 
 -- ---- lines
-
-no_line : (b : Bool) (o : Option ListedItem) (line : ListedItem) → cond b None o ≡ Some line → (b ≡ false) × (o ≡ Some line)
-no_line true o line e = absurd cc
-no_line false o line e = (refl, e)
 
 a_line : (b : Bool) (made line : ListedItem) → cond b (Some made) None ≡ Some line → (b ≡ true) × (made ≡ line)
 a_line true made line e = (refl, cc)
@@ -150,11 +141,11 @@ the_line kind body = record { kind = kind; body = body }
 line_says : (e : Entry) (line : ListedItem) → IsBytes e.body → line_in e ≡ Some line → listed_entry line ≡ e
 unfolding line_in
 line_says e line fits h =
-    let a = no_line (not (eqb e.kind 24)) _ line h in
-    let b = no_line (ltb (length e.body) 16) _ line a.1 in
+    let a = let_through (not (eqb e.kind 24)) _ line h in
+    let b = let_through (ltb (length e.body) 16) _ line a.1 in
     let made : ListedItem = record { id = number e.body; standing = number (drop 8 e.body); name = drop 16 e.body } in
     let c = a_line (is_utf8 (drop 16 e.body)) made line b.1 in
-    let kind : e.kind ≡ 24 = eqb-true _ _ (parts.un_not _ a.0) in
+    let kind : e.kind ≡ 24 = eqb-true _ _ (not_false _ a.0) in
     let long : 16 ≤ length e.body = ltb-false _ _ b.0 in
     let body : words (number e.body ∷ number (drop 8 e.body) ∷ []) ++ drop 16 e.body ≡ e.body = words_split 2 e.body (omega arith) fits in
     let same : listed_entry made ≡ e = ap (λ (l : List ℕ). the_line 24 l) body ∙ ap (λ k. the_line k e.body) (sym kind) in
@@ -188,7 +179,7 @@ lines_more count at before bytes x line h g = rw (h, g, lines_in) refl
 -- lines behind those before them
 pub record Lines (count : ℕ) (before lines : List ListedItem) (bytes : List ℕ) (more : List ListedItem) : Type 0 where
   pub all : lines ≡ before ++ more
-  pub spelled : bytes ≡ listing more
+  pub spelled : bytes ≡ listing_bytes more
   pub many : length more ≡ count
 
 lines_say : (count at : ℕ) (before lines : List ListedItem) (bytes : List ℕ) → IsBytes bytes → lines_in count at before bytes ≡ Ok lines → (more : List ListedItem) × Lines count before lines bytes more
@@ -207,36 +198,36 @@ lines_say (suc count) at before lines bytes fits e =
                 let t = item_takes bytes x fits some.1 in
                 let next = at + (length bytes - length x.1) in
                 let more = lines_say count next (before ++ line.0 ∷ []) lines x.1 t.rest (sym (lines_more count at before bytes x line.0 some.1 line.1) ∙ e) in
-                let body = body_bytes x.0 (bytes_left (spelling x.0) x.1 (subst (λ (l : List ℕ). IsBytes l) t.parts fits)) in
+                let body = body_bytes x.0 (IsBytes-front (spelling x.0) x.1 (subst (λ (l : List ℕ). IsBytes l) t.parts fits)) in
                 let said = line_says x.0 line.0 body line.1 in (
                   line.0 ∷ more.0,
                   record {
                     all = more.1.all ∙ append_assoc before (line.0 ∷ []) more.0;
-                    spelled = t.parts ∙ ap (λ (l : List ℕ). spelling x.0 ++ l) more.1.spelled ∙ ap (λ (y : Entry). spelling y ++ listing more.0) (sym said);
+                    spelled = t.parts ∙ ap (λ (l : List ℕ). spelling x.0 ++ l) more.1.spelled ∙ ap (λ (y : Entry). spelling y ++ listing_bytes more.0) (sym said);
                     many = ap suc more.1.many;
                   },
                 )
           ]
     ]
 
-listed_is : (o : Result (List ListedItem) ReplyError) (r : Reply) → listed o ≡ Ok r → (lines : List ListedItem) × (o ≡ Ok lines) × (NameList lines ≡ r)
+listed_is : (o : Result (List ListedItem) ReplyError) (r : Reply) → listed_reply o ≡ Ok r → (lines : List ListedItem) × (o ≡ Ok lines) × (NameList lines ≡ r)
 listed_is (Ok lines) r e = (lines, refl, done_is (NameList lines) r e)
 listed_is (Err error) r e = absurd cc
 
-listing_says : (bytes : List ℕ) (r : Reply) → IsBytes bytes → listing_in bytes ≡ Ok r → Body bytes (number_of opcodes.NameList) 0 r
+listing_says : (bytes : List ℕ) (r : Reply) → IsBytes bytes → listing_in bytes ≡ Ok r → Body bytes (opcode_number opcodes.NameList) 0 r
 listing_says bytes r fits e =
     let n = number (drop 32 bytes) in
-    let a = passes (ltb (length bytes) 40) 32 _ r e in
+    let a = past (ltb (length bytes) 40) 32 _ r e in
     let s = listed_is (lines_in n 40 [] (drop 40 bytes)) r a.1 in
     let l = lines_say n 40 [] s.0 (drop 40 bytes) (IsBytes-drop 40 bytes fits) s.1 in
     let same : s.0 ≡ l.0 = l.1.all in
     let front = front_word bytes fits (ltb-false _ _ a.0) in
-    let rest : drop 32 bytes ≡ words (length s.0 ∷ []) ++ listing s.0 = front ∙ ap (λ k. words (k ∷ []) ++ drop 40 bytes) (sym l.1.many ∙ ap length (sym same)) ∙ ap (λ (x : List ℕ). words (length s.0 ∷ []) ++ x) (l.1.spelled ∙ ap listing (sym same)) in
-    subst (λ x. Body bytes (number_of opcodes.NameList) 0 x) s.2 (record { rest = rest; code_is = refl; answers = refl })
+    let rest : drop 32 bytes ≡ words (length s.0 ∷ []) ++ listing_bytes s.0 = front ∙ ap (λ k. words (k ∷ []) ++ drop 40 bytes) (sym l.1.many ∙ ap length (sym same)) ∙ ap (λ (x : List ℕ). words (length s.0 ∷ []) ++ x) (l.1.spelled ∙ ap listing_bytes (sym same)) in
+    subst (λ x. Body bytes (opcode_number opcodes.NameList) 0 x) s.2 (record { rest = rest; code_is = refl; answers = refl })
 
 -- ---- all answers
 
-answer_says : (opcode : Opcode) (bytes : List ℕ) (r : Reply) → IsBytes bytes → answer_in opcode bytes ≡ Ok r → Body bytes (number_of opcode) 0 r
+answer_says : (opcode : Opcode) (bytes : List ℕ) (r : Reply) → IsBytes bytes → answer_in opcode bytes ≡ Ok r → Body bytes (opcode_number opcode) 0 r
 answer_says opcodes.Hello bytes r fits e = words_say 3 bytes 1 (Hello (number (drop 32 bytes)) (number (drop 40 bytes)) (number (drop 48 bytes))) r fits refl refl refl refl e
 answer_says opcodes.Send bytes r fits e = words_say 0 bytes 2 Send r fits refl refl refl refl e
 answer_says opcodes.Recv bytes r fits e = words_say 4 bytes 3 (Recv (number (drop 32 bytes)) (number (drop 40 bytes)) (number (drop 48 bytes)) (number (drop 56 bytes))) r fits refl refl refl refl e
@@ -260,23 +251,20 @@ answer_says opcodes.Enter bytes r fits e = words_say 0 bytes 19 Enter r fits ref
 -- ---- numbers of commands
 
 abbrev OpcodeSays : ℕ → Option Opcode → Type 0
-OpcodeSays n o = (opcode : Opcode) → o ≡ Some opcode → number_of opcode ≡ n
+OpcodeSays n o = (opcode : Opcode) → o ≡ Some opcode → opcode_number opcode ≡ n
 
-opcode_is : (x y : Opcode) → Some x ≡ Some y → x ≡ y
-opcode_is x y e = cc
-
-opcode_either : (n : ℕ) (made : Opcode) (more : Option Opcode) (b : Bool) → (b ≡ true → number_of made ≡ n) → OpcodeSays n more → OpcodeSays n (cond b (Some made) more)
-opcode_either n made more true is others = λ opcode e. ap number_of (sym (opcode_is made opcode e)) ∙ is refl
+opcode_either : (n : ℕ) (made : Opcode) (more : Option Opcode) (b : Bool) → (b ≡ true → opcode_number made ≡ n) → OpcodeSays n more → OpcodeSays n (cond b (Some made) more)
+opcode_either n made more true is others = λ opcode e. ap opcode_number (sym (same_some made opcode e)) ∙ is refl
 opcode_either n made more false is others = others
 
-opcode_case : (n k : ℕ) (made : Opcode) (more : Option Opcode) → number_of made ≡ k → OpcodeSays n more → OpcodeSays n (cond (eqb n k) (Some made) more)
+opcode_case : (n k : ℕ) (made : Opcode) (more : Option Opcode) → opcode_number made ≡ k → OpcodeSays n more → OpcodeSays n (cond (eqb n k) (Some made) more)
 opcode_case n k made more is others = opcode_either n made more (eqb n k) (λ e. is ∙ sym (eqb-true n k e)) others
 
 opcode_none : (n : ℕ) → OpcodeSays n None
 opcode_none n = λ opcode e. absurd cc
 
-pub opcode_number : (n : ℕ) → OpcodeSays n (opcode_of n)
-opcode_number n =
+opcode_says : (n : ℕ) → OpcodeSays n (opcode_of n)
+opcode_says n =
     opcode_case n 1 opcodes.Hello _ refl (
     opcode_case n 2 opcodes.Send _ refl (
     opcode_case n 3 opcodes.Recv _ refl (
@@ -301,16 +289,13 @@ opcode_number n =
 -- ---- numbers and values of refusals
 
 abbrev RefusalSays : ℕ → ℕ → Option Refusal → Type 0
-RefusalSays code value o = (r : Refusal) → o ≡ Some r → (refusals.number_of r ≡ code) × (refusals.value_of r ≡ value)
+RefusalSays code value o = (r : Refusal) → o ≡ Some r → (refusals.refusal_number r ≡ code) × (refusals.refusal_value r ≡ value)
 
-refusal_is : (x y : Refusal) → Some x ≡ Some y → x ≡ y
-refusal_is x y e = cc
-
-refusal_either : (code value : ℕ) (made : Refusal) (more : Option Refusal) (b : Bool) → (b ≡ true → refusals.number_of made ≡ code) → refusals.value_of made ≡ value → RefusalSays code value more → RefusalSays code value (cond b (Some made) more)
-refusal_either code value made more true is field others = λ r e. (ap refusals.number_of (sym (refusal_is made r e)) ∙ is refl, ap refusals.value_of (sym (refusal_is made r e)) ∙ field)
+refusal_either : (code value : ℕ) (made : Refusal) (more : Option Refusal) (b : Bool) → (b ≡ true → refusals.refusal_number made ≡ code) → refusals.refusal_value made ≡ value → RefusalSays code value more → RefusalSays code value (cond b (Some made) more)
+refusal_either code value made more true is field others = λ r e. (ap refusals.refusal_number (sym (same_some made r e)) ∙ is refl, ap refusals.refusal_value (sym (same_some made r e)) ∙ field)
 refusal_either code value made more false is field others = others
 
-refusal_case : (code value k : ℕ) (made : Refusal) (more : Option Refusal) → refusals.number_of made ≡ k → refusals.value_of made ≡ value → RefusalSays code value more → RefusalSays code value (cond (eqb code k) (Some made) more)
+refusal_case : (code value k : ℕ) (made : Refusal) (more : Option Refusal) → refusals.refusal_number made ≡ k → refusals.refusal_value made ≡ value → RefusalSays code value more → RefusalSays code value (cond (eqb code k) (Some made) more)
 refusal_case code value k made more is field others = refusal_either code value made more (eqb code k) (λ e. is ∙ sym (eqb-true code k e)) field others
 
 refusal_none : (code value : ℕ) → RefusalSays code value None
@@ -368,26 +353,26 @@ refusal_says code value =
 alone_is : (bytes : List ℕ) (o : Option Refusal) (r : Reply) → if_alone bytes o ≡ Ok r → (refusal : Refusal) × (o ≡ Some refusal) × (Refused refusal ≡ r) × (length bytes ≤ 40)
 alone_is bytes None r e = absurd cc
 alone_is bytes (Some refusal) r e =
-    let a = passes (ltb 40 (length bytes)) 40 (Ok (Refused refusal)) r e in
+    let a = past (ltb 40 (length bytes)) 40 (Ok (Refused refusal)) r e in
     (refusal, refl, done_is (Refused refusal) r a.1, ltb-false _ _ a.0)
 
 refused_says : (command code : ℕ) (bytes : List ℕ) (r : Reply) → (code ≡ 0 → ⊥) → IsBytes bytes → refused_in code bytes ≡ Ok r → Body bytes command code r
 refused_says command code bytes r some fits e =
-    let a = passes (ltb 37 code) 24 _ r e in
-    let b = passes (ltb (length bytes) 40) 32 _ r a.1 in
+    let a = past (ltb 37 code) 24 _ r e in
+    let b = past (ltb (length bytes) 40) 32 _ r a.1 in
     let c = alone_is bytes (refusal_from code (number (drop 32 bytes))) r b.1 in
     let s = refusal_says code (number (drop 32 bytes)) c.0 c.1 in
     let low : 40 ≤ length bytes = ltb-false _ _ b.0 in
     let high : length bytes ≤ 40 = c.3 in
     let rest = words_rest 1 bytes fits (omega arith) in
-    subst (λ x. Body bytes command code x) c.2 (record { rest = rest ∙ ap (λ k. words (k ∷ []) ++ []) (sym s.1); code_is = s.0; answers = λ memory. some (sym s.0 ∙ ap refusals.number_of memory) })
+    subst (λ x. Body bytes command code x) c.2 (record { rest = rest ∙ ap (λ k. words (k ∷ []) ++ []) (sym s.1); code_is = s.0; answers = λ memory. some (sym s.0 ∙ ap refusals.refusal_number memory) })
 
-done_says : (command : ℕ) (o : Option Opcode) (bytes : List ℕ) (r : Reply) → ((opcode : Opcode) → o ≡ Some opcode → number_of opcode ≡ command) → IsBytes bytes → done_in o bytes ≡ Ok r → Body bytes command 0 r
+done_says : (command : ℕ) (o : Option Opcode) (bytes : List ℕ) (r : Reply) → ((opcode : Opcode) → o ≡ Some opcode → opcode_number opcode ≡ command) → IsBytes bytes → done_in o bytes ≡ Ok r → Body bytes command 0 r
 done_says command None bytes r named fits e = absurd cc
 done_says command (Some opcode) bytes r named fits e = subst (λ n. Body bytes n 0 r) (named opcode refl) (answer_says opcode bytes r fits e)
 
 either_says : (bytes : List ℕ) (r : Reply) (b : Bool) → (b ≡ true → code_word bytes ≡ 0) → (b ≡ false → code_word bytes ≡ 0 → ⊥) → IsBytes bytes → cond b (done_in (opcode_of (command_word bytes)) bytes) (refused_in (code_word bytes) bytes) ≡ Ok r → Body bytes (command_word bytes) (code_word bytes) r
-either_says bytes r true zero_code other_code fits e = subst (λ n. Body bytes (command_word bytes) n r) (sym (zero_code refl)) (done_says (command_word bytes) (opcode_of (command_word bytes)) bytes r (opcode_number (command_word bytes)) fits e)
+either_says bytes r true zero_code other_code fits e = subst (λ n. Body bytes (command_word bytes) n r) (sym (zero_code refl)) (done_says (command_word bytes) (opcode_of (command_word bytes)) bytes r (opcode_says (command_word bytes)) fits e)
 either_says bytes r false zero_code other_code fits e = refused_says (command_word bytes) (code_word bytes) bytes r (other_code refl) fits e
 
 -- ---- the whole reply
@@ -399,7 +384,7 @@ place_or (Some at) bytes r e = absurd cc
 -- a reply as it was read
 pub record ReplyRead (bytes : List ℕ) (reply : Reply) : Type 0 where
   pub spelled : bytes ≡ reply_frame (command_word bytes) (caller_word bytes) reply
-  pub answers : Answers (command_word bytes) reply
+  pub answers : IsReplyTo (command_word bytes) reply
   pub size : reply_length reply ≡ length bytes
 
 pub reply_read : (bytes : List ℕ) (r : Reply) → IsBytes bytes → reply_in bytes ≡ Ok r → ReplyRead bytes r
@@ -412,14 +397,14 @@ reply_read bytes r fits e =
     let d = no_place (ltb (length bytes) 24) 16 _ c.1 in
     let f = no_place (ltb (length bytes) 32) 24 None d.1 in
     let long : 32 ≤ length bytes = ltb-false _ _ f.0 in
-    let whole : number bytes ≡ length bytes = eqb-true _ _ (parts.un_not _ b.0) in
+    let whole : number bytes ≡ length bytes = eqb-true _ _ (not_false _ b.0) in
     let body = either_says bytes r (eqb (code_word bytes) 0) (λ t. eqb-true _ _ t) (λ t. eqb-false _ _ t) fits p.1 in
-    let rest : drop 32 bytes ≡ words (words_of r) ++ tail_of r = body.rest in
-    let size : reply_length r ≡ length bytes = omega (arith, ap length rest, length_body (words_of r) (tail_of r), length-drop 32 bytes) in
+    let rest : drop 32 bytes ≡ words (reply_words r) ++ tail_of r = body.rest in
+    let size : reply_length r ≡ length bytes = omega (arith, ap length rest, length-body (reply_words r) (tail_of r), length-drop 32 bytes) in
     let head : words (words_from 4 0 bytes) ++ drop 32 bytes ≡ bytes = words_split 4 bytes (omega arith) fits in
     let front : words (reply_length r ∷ command_word bytes ∷ caller_word bytes ∷ code_of r ∷ []) ≡ words (words_from 4 0 bytes) = ap (λ n. words (n ∷ command_word bytes ∷ caller_word bytes ∷ code_of r ∷ [])) (size ∙ sym whole) ∙ ap (λ n. words (number bytes ∷ command_word bytes ∷ caller_word bytes ∷ n ∷ [])) body.code_is in
     record {
-      spelled = sym (append_assoc (words (reply_length r ∷ command_word bytes ∷ caller_word bytes ∷ code_of r ∷ [])) (words (words_of r)) (tail_of r) ∙ ap (λ (l : List ℕ). l ++ (words (words_of r) ++ tail_of r)) front ∙ ap (λ (l : List ℕ). words (words_from 4 0 bytes) ++ l) (sym rest) ∙ head);
+      spelled = sym (append_assoc (words (reply_length r ∷ command_word bytes ∷ caller_word bytes ∷ code_of r ∷ [])) (words (reply_words r)) (tail_of r) ∙ ap (λ (l : List ℕ). l ++ (words (reply_words r) ++ tail_of r)) front ∙ ap (λ (l : List ℕ). words (words_from 4 0 bytes) ++ l) (sym rest) ∙ head);
       answers = body.answers;
       size = size;
     }

@@ -31,7 +31,8 @@ nothing : reply_frame 3 1 (Refused (NoMessage 5)) ≡ words (40 ∷ 3 ∷ 1 ∷ 
 unfolding word
 nothing = refl
 
--- the message is taken; with an item of size 15, or with padding other than zero, it is broken at the item
+-- the message is taken; with an item of size 15, or with padding other than zero, it is broken at
+-- the item
 taken : refusal_of Replay (words (120 ∷ 2 ∷ 1 ∷ 0 ∷ 88 ∷ 0 ∷ 0 ∷ 1 ∷ 0 ∷ 0 ∷ 0 ∷ 0 ∷ 18 ∷ 1 ∷ 26984 ∷ [])) ≡ None
 unfolding word number item_at split_within split item_in items_behind items_in flaw_of refusal_of
 taken = refl

@@ -2,6 +2,8 @@
 use Rattle.std.proofs.Common.{◌≡◌, ℕ, zero, suc, ◌+◌, ◌^◌, ◌<◌, Bool, true, false, cond, eqb, ltb, leb, List, [], ◌∷◌, ◌++◌, length, drop, Option, Some, None, Ok, sym, subst, ◌∙◌, inl, inr}
 use Rattle.std.specs.Str.{is_utf8}
 use Rattle.std.specs.List.{AllByRecursion}
+use Rattle.kd_model.proofs.Truth.{option_cases, same_some}
+use Rattle.kd_model.proofs.Lists.{all_of_push}
 use Rattle.kd_item.specs.Spelling.{Entry, number, spelling}
 use Rattle.kd_item.specs.Reading.{split, placed}
 use Rattle.kd_item.proofs.Words.{IsBytes, IsBytes-drop, number_fits}
@@ -10,12 +12,12 @@ use Rattle.kd_wire.specs.declared.item.WireItem.{WireItem}
 use Rattle.kd_wire.specs.declared.item.WireItem.TheVariants.{Payload, Sealed, DstName, Filter, Mask, Name, Access, Bus, Endpoint, Description, Id, IdAdd, IdRemove, NameAdd, NameRemove, NameChange}
 use Rattle.kd_wire.specs.declared.command.Command.{Command}
 use Rattle.kd_wire.specs.Items.{words_in}
-use Rattle.kd_wire.specs.Commands.{flags_of, words_of, items_of}
+use Rattle.kd_wire.specs.Commands.{flags_of, command_words, items_of}
 use Rattle.kd_wire.specs.Reading.{text_item, id_item, change_item, item_in, item_behind, items_behind, items_in}
 use Rattle.kd_wire.specs.Refusals.{words_from, own_words}
 use Rattle.kd_wire.specs.Opcodes.{word_count}
 use Rattle.kd_wire.specs.Typed.{AreWords, HasSigned, IsTyped}
-use Rattle.kd_wire.proofs.ItemLaws.{AreBytes, items_bytes, items_end, option_cases, the_error, the_ok, ok_is, behind_takes}
+use Rattle.kd_wire.proofs.ItemLaws.{AreBytes, items_bytes, items_end, the_error, the_ok, ok_is, behind_takes}
 use Rattle.kd_wire.proofs.ItemsRead.{behind_some, behind_none, behind_end}
 
 -- ---- words
@@ -33,11 +35,8 @@ Types o = (item : WireItem) → o ≡ Some item → AreWords (words_in item)
 none_types : Types None
 none_types = λ item e. absurd cc
 
-some_is : (x y : WireItem) → Some x ≡ Some y → x ≡ y
-some_is x y e = cc
-
 some_types : (made : WireItem) → AreWords (words_in made) → Types (Some made)
-some_types made h = λ item e. subst (λ x. AreWords (words_in x)) (some_is made item e) h
+some_types made h = λ item e. subst (λ x. AreWords (words_in x)) (same_some made item e) h
 
 if_types : (b : Bool) (x y : Option WireItem) → Types x → Types y → Types (cond b x y)
 if_types true x y f g = f
@@ -82,10 +81,6 @@ item_types kind body fits =
 abbrev pub AreTyped : List WireItem → Type 0
 AreTyped items = AllByRecursion (λ (item : WireItem). AreWords (words_in item)) items
 
-one_more : (before : List WireItem) (item : WireItem) → AreTyped before → AreWords (words_in item) → AreTyped (before ++ item ∷ [])
-one_more [] item all one = (one, tt)
-one_more (x ∷ before) item all one = (all.0, one_more before item all.1 one)
-
 read_typed : (kinds : List ℕ) (at : ℕ) (es : List Entry) (before items : List WireItem) → AreBytes es → AreTyped before → items_behind kinds before (placed at es) ≡ Ok items → AreTyped items
 read_typed kinds at [] before items fits typed h = subst (λ (l : List WireItem). AreTyped l) (ok_is before items (sym (behind_end kinds before) ∙ h)) typed
 read_typed kinds at (e ∷ es) before items fits typed h =
@@ -94,7 +89,7 @@ read_typed kinds at (e ∷ es) before items fits typed h =
       | inl none ↦ let never : the_error at ≡ the_ok items = sym (behind_none kinds before e at (placed next es) none) ∙ h in absurd cc
       | inr some ↦
           let one : AreWords (words_in some.0) = item_types e.kind e.body fits.0 some.0 (behind_takes kinds before e some.0 some.1).1 in
-          read_typed kinds next es (before ++ some.0 ∷ []) items fits.1 (one_more before some.0 typed one) (sym (behind_some kinds before e at (placed next es) some.0 some.1) ∙ h)
+          read_typed kinds next es (before ++ some.0 ∷ []) items fits.1 (all_of_push (λ (item : WireItem). AreWords (words_in item)) before some.0 typed one) (sym (behind_some kinds before e at (placed next es) some.0 some.1) ∙ h)
     ]
 
 pub items_typed : (kinds : List ℕ) (at : ℕ) (bytes : List ℕ) (items : List WireItem) → IsBytes bytes → items_in kinds at bytes ≡ Ok items → AreTyped items
@@ -103,7 +98,7 @@ items_typed kinds at bytes items fits h = read_typed kinds at (split bytes).0 []
 -- ---- commands
 
 pub typed_of : (command : Command) (opcode : Opcode) (flags : ℕ) (own : List ℕ) (items : List WireItem) → flags < 2 ^ 64 → IsBytes own → AreTyped items
-    → flags_of command ≡ flags → words_of command ≡ own_words opcode own → items_of command ≡ items → HasSigned command → IsTyped command
+    → flags_of command ≡ flags → command_words command ≡ own_words opcode own → items_of command ≡ items → HasSigned command → IsTyped command
 typed_of command opcode flags own items small fits typed flags-is words-are items-are signed = record {
   flags = rw flags-is small;
   words = subst (λ (l : List ℕ). AreWords l) (sym words-are) (words_typed (word_count opcode) 0 own fits);

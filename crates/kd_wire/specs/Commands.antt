@@ -58,18 +58,20 @@ items_of (MakeBus size hashes bus) = items.Bus bus ∷ []
 items_of (Seal payload) = items.Payload payload ∷ []
 items_of command = []
 
--- the command's own words; those of a SEND are the header of its message, of which the first is the size of header and
--- items
-abbrev pub words_of : Command → List ℕ
-words_of (Hello flags pool send_mask receive_mask its) = pool ∷ send_mask ∷ receive_mask ∷ []
-words_of (Send flags priority dst source payload_type cookie last its) = (64 + length (spelled its)) ∷ flags.0 ∷ cast_unsigned w64 priority ∷ dst ∷ source ∷ payload_type ∷ cookie ∷ last ∷ []
-words_of (Recv flags limit) = cast_unsigned w64 limit ∷ []
-words_of (Read sealed number) = number ∷ []
-words_of (Free number) = number ∷ []
-words_of (MatchAdd replace cookie its) = cookie ∷ []
-words_of (MatchRemove cookie) = cookie ∷ []
-words_of (MakeBus size hashes bus) = size ∷ hashes ∷ []
-words_of (Tick moment) = moment ∷ []
-words_of (Unseal number) = number ∷ []
-words_of (Enter creds) = creds.uid ∷ creds.gid ∷ bit creds.privileged ∷ []
-words_of command = []
+-- the command's own words; those of a SEND are the header of its message, of which the first is the
+-- size of header and items
+abbrev pub command_words : Command → List ℕ
+command_words (Hello flags pool send_mask receive_mask its) = pool ∷ send_mask ∷ receive_mask ∷ []
+command_words (Send flags priority dst source payload_type cookie last its) =
+    (64 + length (spelled its)) ∷ flags.0 ∷ cast_unsigned w64 priority ∷ dst ∷ source ∷ payload_type
+    ∷ cookie ∷ last ∷ []
+command_words (Recv flags limit) = cast_unsigned w64 limit ∷ []
+command_words (Read sealed number) = number ∷ []
+command_words (Free number) = number ∷ []
+command_words (MatchAdd replace cookie its) = cookie ∷ []
+command_words (MatchRemove cookie) = cookie ∷ []
+command_words (MakeBus size hashes bus) = size ∷ hashes ∷ []
+command_words (Tick moment) = moment ∷ []
+command_words (Unseal number) = number ∷ []
+command_words (Enter creds) = creds.uid ∷ creds.gid ∷ bit creds.privileged ∷ []
+command_words command = []

@@ -6,21 +6,24 @@ use Rattle.kd_wire.specs.declared.command.Command.{Command}
 use Rattle.kd_wire.specs.declared.frame.Cut.{Cut}
 use Rattle.kd_wire.specs.declared.frame.Cut.TheVariants.{Frame, Need, Bad}
 use Rattle.kd_wire.specs.Items.{spelled}
-use Rattle.kd_wire.specs.Opcodes.{number_of}
-use Rattle.kd_wire.specs.Commands.{opcode_in, flags_of, words_of, items_of}
+use Rattle.kd_wire.specs.Opcodes.{opcode_number}
+use Rattle.kd_wire.specs.Commands.{opcode_in, flags_of, command_words, items_of}
 
 -- four words, further words, and items
 abbrev pub layout : ℕ → ℕ → ℕ → List ℕ → List WireItem → List ℕ
 layout command caller flags own items =
-    words ((32 + 8 * length own + length (spelled items)) ∷ command ∷ caller ∷ flags ∷ []) ++ words own ++ spelled items
+    words ((32 + 8 * length own + length (spelled items)) ∷ command ∷ caller ∷ flags ∷ [])
+    ++ words own ++ spelled items
 
 -- how many bytes a command's frame has
 abbrev pub frame_length : Command → ℕ
-frame_length command = 32 + 8 * length (words_of command) + length (spelled (items_of command))
+frame_length command = 32 + 8 * length (command_words command) + length (spelled (items_of command))
 
 -- the one spelling of a command from this caller
 abbrev pub frame_of : ℕ → Command → List ℕ
-frame_of caller command = layout (number_of (opcode_in command)) caller (flags_of command) (words_of command) (items_of command)
+frame_of caller command =
+    layout (opcode_number (opcode_in command)) caller (flags_of command) (command_words command)
+    (items_of command)
 
 -- no frame has such a size
 abbrev pub is_no_size : ℕ → Bool

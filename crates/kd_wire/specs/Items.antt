@@ -55,12 +55,12 @@ bytes_in item = []
 abbrev pub body_of : WireItem → List ℕ
 body_of item = words (words_in item) ++ bytes_in item
 
-abbrev pub entry_of : WireItem → Entry
-entry_of item = record { kind = kind_of item; body = body_of item }
+abbrev pub wire_entry : WireItem → Entry
+wire_entry item = record { kind = kind_of item; body = body_of item }
 
 -- the bytes of items, one after the other
 abbrev pub spelled : List WireItem → List ℕ
-spelled items = flat_map (λ item. spelling (entry_of item)) items
+spelled items = flat_map (λ item. spelling (wire_entry item)) items
 
 -- how many bytes an item takes
 abbrev pub wire_length : WireItem → ℕ

@@ -4,26 +4,26 @@ use Rattle.kd_wire.specs.declared.opcode.Opcode.{Opcode}
 use Rattle.kd_wire.specs.declared.opcode.Opcode.TheVariants.{Hello, Send, Recv, Read, Free, Byebye, Close, NameAcquire, NameRelease, NameList, MatchAdd, MatchRemove, PolicySet, EndpointMake, MakeBus, Tick, Seal, Unseal, Enter}
 
 -- the command word of a frame
-abbrev pub number_of : Opcode → ℕ
-number_of Hello = 1
-number_of Send = 2
-number_of Recv = 3
-number_of Read = 4
-number_of Free = 5
-number_of Byebye = 6
-number_of Close = 7
-number_of NameAcquire = 8
-number_of NameRelease = 9
-number_of NameList = 10
-number_of MatchAdd = 11
-number_of MatchRemove = 12
-number_of PolicySet = 13
-number_of EndpointMake = 14
-number_of MakeBus = 15
-number_of Tick = 16
-number_of Seal = 17
-number_of Unseal = 18
-number_of Enter = 19
+abbrev pub opcode_number : Opcode → ℕ
+opcode_number Hello = 1
+opcode_number Send = 2
+opcode_number Recv = 3
+opcode_number Read = 4
+opcode_number Free = 5
+opcode_number Byebye = 6
+opcode_number Close = 7
+opcode_number NameAcquire = 8
+opcode_number NameRelease = 9
+opcode_number NameList = 10
+opcode_number MatchAdd = 11
+opcode_number MatchRemove = 12
+opcode_number PolicySet = 13
+opcode_number EndpointMake = 14
+opcode_number MakeBus = 15
+opcode_number Tick = 16
+opcode_number Seal = 17
+opcode_number Unseal = 18
+opcode_number Enter = 19
 
 -- the command that has this number
 abbrev pub opcode_of : ℕ → Option Opcode

@@ -6,12 +6,12 @@ use Rattle.kd_wire.specs.declared.opcode.Opcode.{Opcode}
 use Rattle.kd_wire.specs.declared.opcode.Opcode.TheVariants.{MakeBus, Enter}
 
 -- a replay has the callers 1 to 64, a session the caller 0
-abbrev pub admits : Port → ℕ → Bool
-admits Replay caller = nat_le 1 caller && nat_le caller 64
-admits Session caller = caller == 0
+abbrev pub takes_caller : Port → ℕ → Bool
+takes_caller Replay caller = nat_le 1 caller && nat_le caller 64
+takes_caller Session caller = caller == 0
 
 -- no bus is made in a replay, and nobody enters in a session
-abbrev pub runs : Port → Opcode → Bool
-runs Replay MakeBus = false
-runs Session Enter = false
-runs port opcode = true
+abbrev pub takes_opcode : Port → Opcode → Bool
+takes_opcode Replay MakeBus = false
+takes_opcode Session Enter = false
+takes_opcode port opcode = true

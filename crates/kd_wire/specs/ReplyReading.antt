@@ -1,11 +1,12 @@
--- Replies as they are read: the value, or the first place that breaks the format, in the order of the bytes. A word that
--- runs past the end breaks at its own start, and so does what is missing; what is left over breaks at its start.
-use Rattle.std.specs.Prelude.{ℕ, zero, suc, ◌+◌, ◌*◌, ◌-◌, ◌/◌, not, ◌&&◌, nat_lt, nat_le, ◌==◌, if◌then◌else◌, List, [], ◌∷◌, ◌++◌, length, take, drop, Option, Some, None, Result, Ok, Err}
+-- Replies as they are read: the value, or the first place that breaks the format, in the order of
+-- the bytes. A word that runs past the end breaks at its own start, and so does what is missing;
+-- what is left over breaks at its start.
+use Rattle.std.specs.Prelude.{◌≡◌, ◌⊎◌, Bool, ℕ, zero, suc, ◌+◌, ◌*◌, ◌-◌, ◌/◌, not, ◌&&◌, nat_lt, nat_le, ◌==◌, if◌then◌else◌, List, [], ◌∷◌, ◌++◌, length, take, drop, Option, Some, None, Result, Ok, Err}
 use Rattle.std.specs.Str.{is_utf8}
 use Rattle.kd_item.specs.Spelling.{Entry, number, padding}
 use Rattle.kd_item.specs.Reading.{item_at, are_zeros}
 use Rattle.kd_types.specs.declared.reply_error.ReplyError.{ReplyError}
-use Rattle.kd_types.specs.declared.reply_error.ReplyError.TheVariants.{Bad}
+use Rattle.kd_types.specs.declared.reply_error.ReplyError.TheVariants.{Bad, OutOfMemory}
 use Rattle.kd_types.specs.declared.refusal.Refusal.{Refusal}
 use Rattle.kd_types.specs.declared.refusal.Refusal.TheVariants.{Malformed, Unsupported, BadFlags, MissingItem, DoubledItem, BadName, NotPermitted, NoSuchName, NoSuchConnection, NameMoved, NameTaken, AlreadyOwned, NotOwner, TooMany, PoolFull, Quota, NotStarted, NoMessage, NoSuchPriority, NoSuchSlice, NotReceived, Busy, BloomSize, TooLong, BroadcastMisuse, NoSuchBus, BusExists, WrongPrefix, NoSuchEndpoint, EndpointExists, WrongState, MessagesQueued, NoSuchMatch, NoSuchSeal, BadCookie, SlicesSpent, TurnsSpent}
 use Rattle.kd_wire.specs.declared.opcode.Opcode.{Opcode}
@@ -15,6 +16,10 @@ use Rattle.kd_wire.specs.declared.reply.Reply.{Reply}
 use Rattle.kd_wire.specs.declared.reply.Reply.TheVariants.{Hello, Send, Recv, Read, Free, Byebye, Close, NameAcquire, NameRelease, NameList, MatchAdd, MatchRemove, PolicySet, EndpointMake, MakeBus, Tick, Seal, Unseal, Enter, Refused}
 use Rattle.kd_wire.specs.Opcodes.{opcode_of}
 use Rattle.kd_wire.specs.Frames.{command_word}
+
+-- why there is no value: memory ran out, or the bytes read so
+abbrev pub IsBreak : {X : Type 0} → ReplyError → Result X ReplyError → Type 0
+IsBreak error read = (error ≡ OutOfMemory) ⊎ (read ≡ Err error)
 
 -- the code of a reply
 abbrev pub code_word : List ℕ → ℕ
@@ -46,30 +51,41 @@ abbrev pub with_words : ℕ → List ℕ → Reply → Result Reply ReplyError
 with_words count bytes reply = unbroken (words_break count bytes) reply
 
 -- 1 for the owner of the name, 2 for one that is queued
+abbrev pub is_acquired_word : ℕ → Bool
+is_acquired_word n = nat_le 1 n && nat_le n 2
+
 abbrev pub acquired_in : List ℕ → Result Reply ReplyError
 acquired_in bytes =
     if nat_lt (length bytes) 40 then Err (Bad 32)
-    else if not (nat_le 1 (number (drop 32 bytes)) && nat_le (number (drop 32 bytes)) 2) then Err (Bad 32)
+    else if not (is_acquired_word (number (drop 32 bytes))) then Err (Bad 32)
     else if nat_lt 40 (length bytes) then Err (Bad 40)
     else Ok (NameAcquire (number (drop 32 bytes) == 2))
 
 -- so many bytes, then zeros to a multiple of 8
 abbrev pub run_of : ℕ → List ℕ → Result Reply ReplyError
 run_of count bytes =
+    let end = count + padding count in
     if nat_lt (length bytes) count then Err (Bad 40)
-    else if nat_lt (length bytes) (count + padding count) then Err (Bad 40)
-    else if are_zeros (take (padding count) (drop count bytes)) then (if nat_lt (count + padding count) (length bytes) then Err (Bad (40 + count + padding count)) else Ok (Read (take count bytes)))
-    else Err (Bad 40)
+    else if nat_lt (length bytes) end then Err (Bad 40)
+    else if not (are_zeros (take (padding count) (drop count bytes))) then Err (Bad 40)
+    else if nat_lt end (length bytes) then Err (Bad (40 + count + padding count))
+    else Ok (Read (take count bytes))
 
 abbrev pub read_in : List ℕ → Result Reply ReplyError
-read_in bytes = if nat_lt (length bytes) 40 then Err (Bad 32) else run_of (number (drop 32 bytes)) (drop 40 bytes)
+read_in bytes =
+    if nat_lt (length bytes) 40 then Err (Bad 32)
+    else run_of (number (drop 32 bytes)) (drop 40 bytes)
 
 -- what an item says as a line of a listing
 unfoldable pub line_in : Entry → Option ListedItem
 line_in e =
     if not (e.kind == 24) then None
     else if nat_lt (length e.body) 16 then None
-    else if is_utf8 (drop 16 e.body) then Some (record { id = number e.body; standing = number (drop 8 e.body); name = drop 16 e.body })
+    else if is_utf8 (drop 16 e.body) then Some (record {
+      id = number e.body;
+      standing = number (drop 8 e.body);
+      name = drop 16 e.body;
+    })
     else None
 
 -- so many lines behind those before them, from this place to the end of the bytes
@@ -77,21 +93,30 @@ unfoldable pub lines_in : ℕ → ℕ → List ListedItem → List ℕ → Resul
 lines_in zero at before bytes = if length bytes == 0 then Ok before else Err (Bad at)
 lines_in (suc count) at before bytes = elim (item_at bytes) [
   | None ↦ Err (Bad at)
-  | Some x ↦ elim (line_in x.0) [ None ↦ Err (Bad at) | Some line ↦ lines_in count (at + (length bytes - length x.1)) (before ++ line ∷ []) x.1 ]
+  | Some x ↦ elim (line_in x.0) [
+    | None ↦ Err (Bad at)
+    | Some line ↦ lines_in count (at + (length bytes - length x.1)) (before ++ line ∷ []) x.1
+  ]
 ]
 
-abbrev pub listed : Result (List ListedItem) ReplyError → Result Reply ReplyError
-listed (Ok lines) = Ok (NameList lines)
-listed (Err error) = Err error
+abbrev pub listed_reply : Result (List ListedItem) ReplyError → Result Reply ReplyError
+listed_reply (Ok lines) = Ok (NameList lines)
+listed_reply (Err error) = Err error
 
 abbrev pub listing_in : List ℕ → Result Reply ReplyError
-listing_in bytes = if nat_lt (length bytes) 40 then Err (Bad 32) else listed (lines_in (number (drop 32 bytes)) 40 [] (drop 40 bytes))
+listing_in bytes =
+    if nat_lt (length bytes) 40 then Err (Bad 32)
+    else listed_reply (lines_in (number (drop 32 bytes)) 40 [] (drop 40 bytes))
 
 -- the answer of a command that is done
 abbrev pub answer_in : Opcode → List ℕ → Result Reply ReplyError
-answer_in opcodes.Hello bytes = with_words 3 bytes (Hello (number (drop 32 bytes)) (number (drop 40 bytes)) (number (drop 48 bytes)))
+answer_in opcodes.Hello bytes =
+    with_words 3 bytes
+    (Hello (number (drop 32 bytes)) (number (drop 40 bytes)) (number (drop 48 bytes)))
 answer_in opcodes.Send bytes = with_words 0 bytes Send
-answer_in opcodes.Recv bytes = with_words 4 bytes (Recv (number (drop 32 bytes)) (number (drop 40 bytes)) (number (drop 48 bytes)) (number (drop 56 bytes)))
+answer_in opcodes.Recv bytes =
+    with_words 4 bytes (Recv (number (drop 32 bytes)) (number (drop 40 bytes))
+    (number (drop 48 bytes)) (number (drop 56 bytes)))
 answer_in opcodes.Read bytes = read_in bytes
 answer_in opcodes.Free bytes = with_words 0 bytes Free
 answer_in opcodes.Byebye bytes = with_words 0 bytes Byebye
@@ -159,7 +184,8 @@ refusal_from code value =
 
 abbrev pub if_alone : List ℕ → Option Refusal → Result Reply ReplyError
 if_alone bytes None = Err (Bad 32)
-if_alone bytes (Some refusal) = if nat_lt 40 (length bytes) then Err (Bad 40) else Ok (Refused refusal)
+if_alone bytes (Some refusal) =
+    if nat_lt 40 (length bytes) then Err (Bad 40) else Ok (Refused refusal)
 
 -- the refusal of this code, from 1
 abbrev pub refused_in : ℕ → List ℕ → Result Reply ReplyError
@@ -174,7 +200,9 @@ done_in None bytes = Err (Bad 24)
 done_in (Some opcode) bytes = answer_in opcode bytes
 
 abbrev pub behind_head : List ℕ → Result Reply ReplyError
-behind_head bytes = if code_word bytes == 0 then done_in (opcode_of (command_word bytes)) bytes else refused_in (code_word bytes) bytes
+behind_head bytes =
+    if code_word bytes == 0 then done_in (opcode_of (command_word bytes)) bytes
+    else refused_in (code_word bytes) bytes
 
 abbrev pub head_then : Option ℕ → List ℕ → Result Reply ReplyError
 head_then None bytes = behind_head bytes

@@ -1,4 +1,5 @@
--- Values whose numbers are of their types. A value of the program always is; a law over all values has to say so.
+-- Values whose numbers are of their types. A value of the program always is; a law over all values
+-- has to say so.
 use Rattle.std.specs.Prelude.{ℕ, ◌^◌, ◌<◌, List, [], ◌∷◌, ◌≡◌, true, ⊤}
 use Rattle.std.specs.List.{AllByRecursion}
 use Rattle.std.specs.Str.{is_utf8}
@@ -12,7 +13,7 @@ use Rattle.kd_wire.specs.declared.reply.Reply.{Reply}
 use Rattle.kd_wire.specs.declared.reply.Reply.TheVariants.{NameList}
 use Rattle.kd_wire.specs.Replies as replies
 use Rattle.kd_wire.specs.Items.{words_in}
-use Rattle.kd_wire.specs.Commands.{flags_of, words_of, items_of}
+use Rattle.kd_wire.specs.Commands.{flags_of, command_words, items_of}
 
 -- numbers of 64 bits
 abbrev pub AreWords : List ℕ → Type 0
@@ -27,7 +28,7 @@ HasSigned command = ⊤
 -- a command whose numbers are of their types
 pub record IsTyped (command : Command) : Type 0 where
   pub flags : flags_of command < 2 ^ 64
-  pub words : AreWords (words_of command)
+  pub words : AreWords (command_words command)
   pub items : AllByRecursion (λ (item : WireItem). AreWords (words_in item)) (items_of command)
   pub signed : HasSigned command
 
@@ -43,5 +44,5 @@ lines_of reply = []
 
 -- a reply whose numbers are of their types, and whose names are texts
 pub record IsTypedReply (reply : Reply) : Type 0 where
-  pub words : AreWords (replies.words_of reply)
+  pub words : AreWords (replies.reply_words reply)
   pub lines : AllByRecursion IsTypedLine (lines_of reply)

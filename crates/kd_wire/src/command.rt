@@ -3,7 +3,7 @@
 ghost use Rattle.std.specs.Prelude.{◌≡◌, ◌^◌, ◌<◌, ◌≤◌, length};
 ghost use Rattle.kd_wire.specs.Opcodes.{word_count};
 ghost use Rattle.kd_wire.specs.Items.{spelled};
-ghost use Rattle.kd_wire.specs.Commands.{opcode_in, flags_of, words_of, items_of};
+ghost use Rattle.kd_wire.specs.Commands.{opcode_in, flags_of, command_words, items_of};
 
 use crate::item::WireItems;
 use crate::opcode::Opcode;
@@ -11,11 +11,12 @@ use kd_types::{
     Blob, Cookie, Creds, HelloFlags, ListFlags, Moment, NameFlags, RecvFlags, SendFlags, Text,
 };
 
-/// A command, after the commands of the manual page kdbus. It keeps its items in the order of its frame, so that it has
-/// one spelling.
+/// A command, after the commands of the manual page kdbus. It keeps its items in the order of its
+/// frame, so that it has one spelling.
 #[derive(Debug, Drop)]
 pub enum Command {
-    /// Makes a connection, with a pool of so many bytes. The masks tell which metadata it sends and wants to receive.
+    /// Makes a connection, with a pool of so many bytes. The masks tell which metadata it sends and
+    /// wants to receive.
     Hello {
         flags: HelloFlags,
         pool: u32,
@@ -23,8 +24,9 @@ pub enum Command {
         receive_mask: u64,
         items: WireItems,
     },
-    /// Sends a message to the connection `dst`, to the owner of the name among the items where `dst` is 0, or to all
-    /// whose rules admit it where `dst` is all ones. The last word is a deadline, or the cookie that is answered.
+    /// Sends a message to the connection `dst`, to the owner of the name among the items where
+    /// `dst` is 0, or to all whose rules admit it where `dst` is all ones. The last word is a
+    /// deadline, or the cookie that is answered.
     Send {
         flags: SendFlags,
         priority: i64,
@@ -151,13 +153,13 @@ impl Command {
         }
     }
 
-    /// Puts its own words into a place for so many. Those of a SEND begin with the size of its message, which is the
-    /// header and so many bytes of items.
+    /// Puts its own words into a place for so many. Those of a SEND begin with the size of its
+    /// message, which is the header and so many bytes of items.
     pub(crate) fn put_own(&self, into: &mut [u64], items_length: usize)
         requires room { length into.old ≡ word_count (opcode_in self.now) }
         requires items { items_length ≡ length (spelled (items_of self.now)) }
         requires bound { items_length < 2 ^ 63 }
-        ensures { into.new ≡ words_of self.now }
+        ensures { into.new ≡ command_words self.now }
     {
         match self {
             Command::Hello {
@@ -206,7 +208,7 @@ impl Command {
     fn put_one(&self, into: &mut [u64])
         requires room { length into.old ≡ word_count (opcode_in self.now) }
         requires few { word_count (opcode_in self.now) ≤ 1 }
-        ensures { into.new ≡ words_of self.now }
+        ensures { into.new ≡ command_words self.now }
     {
         match self {
             Command::Recv { limit, .. } => into.copy_from_slice(&[limit.cast_unsigned()]),

@@ -9,8 +9,8 @@ use kd_item::word_at;
 /// The least frame: the four words of its head.
 pub(crate) const HEAD: usize = 32;
 
-/// The greatest frame. It bounds what a reader of frames keeps while it waits for the end of one, and is twice the
-/// greatest message.
+/// The greatest frame. It bounds what a reader of frames keeps while it waits for the end of one,
+/// and is twice the greatest message.
 pub(crate) const LIMIT: usize = 131_072;
 
 /// What the bytes begin with, judged by their size word.

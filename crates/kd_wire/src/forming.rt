@@ -3,7 +3,7 @@
 ghost use Rattle.std.specs.Prelude.{◌≡◌, ◌+◌, ◌*◌, ◌≤◌, ◌&&◌, [], length, nat_le, Some, None, if◌then◌else◌};
 ghost use Rattle.std.specs.Str.{is_utf8};
 ghost use Rattle.kd_item.specs.Spelling.{item_length};
-ghost use Rattle.kd_wire.specs.Commands.{opcode_in, flags_of, words_of, items_of};
+ghost use Rattle.kd_wire.specs.Commands.{opcode_in, flags_of, command_words, items_of};
 ghost use Rattle.kd_wire.specs.Items.{spelled};
 ghost use Rattle.kd_wire.specs.Opcodes.{word_count};
 ghost use Rattle.kd_wire.specs.Reading.{has_form, stand};
@@ -22,7 +22,9 @@ use kd_types::Refusal;
 
 /// How many bytes the items take; None where they are more than a frame has.
 fn length_within(items: &[WireItem]) -> Option<usize>
-    ensures { result ≡ (if nat_le (length (spelled items.now)) 131072 then Some (length (spelled items.now)) else None) }
+    ensures { result
+        ≡ (if nat_le (length (spelled items.now)) 131072 then Some (length (spelled items.now))
+        else None) }
 {
     let mut total = 0;
     'items: for item in items {
@@ -35,7 +37,8 @@ fn length_within(items: &[WireItem]) -> Option<usize>
     Some(total)
 }
 
-/// Whether an item has the form of its kind: a text is UTF-8, and a description has at most 255 bytes.
+/// Whether an item has the form of its kind: a text is UTF-8, and a description has at most 255
+/// bytes.
 fn has_form(item: &WireItem) -> bool
     ensures { result ≡ has_form item.now }
 {
@@ -76,7 +79,9 @@ fn is_short(opcode: Opcode, items_length: usize) -> bool
 
 /// Whether a command whose one item is this text is no longer than a frame, and the text is UTF-8.
 fn is_short_text(opcode: Opcode, text: &[u8]) -> bool
-    ensures { result ≡ (nat_le (32 + 8 * word_count opcode + item_length (length text.now)) 131072 && is_utf8 text.now) }
+    ensures { result
+        ≡ (nat_le (32 + 8 * word_count opcode + item_length (length text.now)) 131072
+        && is_utf8 text.now) }
 {
     is_short(opcode, entry_length(text.len())) && is_text(text)
 }
@@ -86,7 +91,8 @@ fn flaw_in(command: &Command, items: &[WireItem], items_length: usize) -> Option
     requires items { items.now ≡ items_of command.now }
     requires length { items_length ≡ length (spelled items.now) }
     requires bound { items_length ≤ 131072 }
-    ensures { result ≡ flaw_of (opcode_in command.now) (flags_of command.now) (words_of command.now) items.now }
+    ensures { result ≡ flaw_of (opcode_in command.now) (flags_of command.now)
+        (command_words command.now) items.now }
 {
     let opcode = command.opcode();
     let mut room = [0; MOST_WORDS];
@@ -110,8 +116,8 @@ fn has_frame(command: &Command, items: &[WireItem]) -> bool
 }
 
 impl Command {
-    /// Whether it has a frame: of at most 131,072 bytes, with items that may stand in it, and with no value that is
-    /// refused. It takes no memory.
+    /// Whether it has a frame: of at most 131,072 bytes, with items that may stand in it, and with
+    /// no value that is refused. It takes no memory.
     pub fn is_well_formed(&self) -> bool
         ensures { result ≡ is_well_formed self.now }
     {

@@ -13,7 +13,8 @@ use std::marker::Model;
 pub enum WireItem {
     /// Bytes of a message.
     Payload(Blob),
-    /// A range of sealed bytes that a message shares: the number of the seal, where the range starts, and its length.
+    /// A range of sealed bytes that a message shares: the number of the seal, where the range
+    /// starts, and its length.
     Sealed {
         number: u64,
         start: u64,
@@ -30,8 +31,8 @@ pub enum WireItem {
     Mask(Blob),
     /// A name; as a condition, that the sender owns it.
     Name(Text),
-    /// Who may do what with the name before it: subject 1 is a user, 2 a group, 3 the world (whose id means nothing);
-    /// level 1 is to see, 2 to talk to, 3 to own.
+    /// Who may do what with the name before it: subject 1 is a user, 2 a group, 3 the world (whose
+    /// id means nothing); level 1 is to see, 2 to talk to, 3 to own.
     Access {
         subject: u64,
         level: u64,
@@ -45,11 +46,13 @@ pub enum WireItem {
     Description(Text),
     /// A condition on the sender's id.
     Id(u64),
-    /// A condition on the notice that a connection came. As in the next four, all ones stand for any id.
+    /// A condition on the notice that a connection came. As in the next four, all ones stand for
+    /// any id.
     IdAdd(u64),
     /// A condition on the notice that a connection went.
     IdRemove(u64),
-    /// A condition on the notice that a name got an owner. As in the next two, the empty name stands for any.
+    /// A condition on the notice that a name got an owner. As in the next two, the empty name
+    /// stands for any.
     NameAdd {
         old: u64,
         new: u64,

@@ -3,7 +3,8 @@
 ghost use Rattle.std.specs.Prelude.{◌≡◌, ◌*◌, ◌≤◌, length};
 ghost use Rattle.std.specs.List.{list_any};
 ghost use Rattle.kd_wire.specs.Opcodes.{word_count};
-ghost use Rattle.kd_wire.specs.Refusals.{own_words, has_double, lacks_one, begins_with_access, has_bare_name, has_empty_group, has_unknown_flag, is_two_kinds, is_pool_of, has_bad_word, is_bloom_size, is_hash_count, is_bad_access, flaw_of, words_from};
+ghost use Rattle.kd_model.specs.Filters.{is_bloom_size, is_hash_count};
+ghost use Rattle.kd_wire.specs.Refusals.{own_words, has_double, lacks_one, begins_with_access, has_bare_name, has_empty_group, has_unknown_flag, is_two_kinds, is_pool_of, has_bad_word, is_bad_access, flaw_of, words_from};
 
 use crate::item::WireItem;
 use crate::kinds::{ACCESS, NAME, how_many, is_one_of, kinds_of, needed_kinds, single_kinds};
@@ -76,8 +77,8 @@ fn is_two_kinds(flags: u64) -> bool
     flags & 6 == 6 || flags & 10 == 10 || flags & 12 == 12
 }
 
-/// Whether a connection of these flags may have a pool of this size: from 256 bytes to 1 MiB in words, and none for a
-/// holder.
+/// Whether a connection of these flags may have a pool of this size: from 256 bytes to 1 MiB in
+/// words, and none for a holder.
 fn is_pool_of(flags: u64, size: u64) -> bool
     ensures { result ≡ is_pool_of flags size }
 {
@@ -88,8 +89,9 @@ fn is_pool_of(flags: u64, size: u64) -> bool
     }
 }
 
-/// Whether a choice or a size is outside its values. The masks of a HELLO have four bits, the flags of a message three;
-/// a Bloom filter has 8 to 512 bytes in words, and 1 to 8 hashes; a user and a group are numbers of 32 bits.
+/// Whether a choice or a size is outside its values. The masks of a HELLO have four bits, the flags
+/// of a message three; a Bloom filter has 8 to 512 bytes in words, and 1 to 8 hashes; a user and a
+/// group are numbers of 32 bits.
 pub(crate) fn has_bad_word(opcode: Opcode, flags: u64, own: &[u64]) -> bool
     requires { length own.now ≡ word_count opcode }
     ensures { result ≡ has_bad_word opcode flags own.now }
@@ -121,7 +123,8 @@ fn is_hash_count(hashes: u64) -> bool
     1 <= hashes && hashes <= 8
 }
 
-/// Whether an item is an ACCESS whose subject or level isn't 1, 2 or 3, or whose user or group isn't a number of one.
+/// Whether an item is an ACCESS whose subject or level isn't 1, 2 or 3, or whose user or group
+/// isn't a number of one.
 fn is_bad_access(item: &WireItem) -> bool
     ensures { result ≡ is_bad_access item.now }
 {
@@ -142,7 +145,8 @@ fn has_bad_access(items: &[WireItem]) -> bool
     items.iter().any(|item| is_bad_access(item))
 }
 
-/// What is wrong with the values of a command: DoubledItem, MissingItem or BadFlags, the first in this order.
+/// What is wrong with the values of a command: DoubledItem, MissingItem or BadFlags, the first in
+/// this order.
 #[tactic(auto, unfolding(crate::specs::Refusals::flaw_of))]
 pub(crate) fn flaw(opcode: Opcode, flags: u64, own: &[u64], items: &[WireItem]) -> Option<Refusal>
     requires { length own.now ≡ word_count opcode }

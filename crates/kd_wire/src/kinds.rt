@@ -40,7 +40,8 @@ pub(crate) const NAME_REMOVE: u64 = 15;
 
 pub(crate) const NAME_CHANGE: u64 = 16;
 
-/// The kinds of items that a command takes, by the flags of its frame. A group is a NAME and the ACCESS items behind it.
+/// The kinds of items that a command takes, by the flags of its frame. A group is a NAME and the
+/// ACCESS items behind it.
 pub(crate) fn kinds_of(opcode: Opcode, flags: u64) -> &'static [u64]
     ensures { result.now ≡ kinds_of opcode flags }
 {
@@ -95,8 +96,8 @@ pub(crate) fn single_kinds(opcode: Opcode, flags: u64) -> &'static [u64]
     }
 }
 
-/// The kinds of which a command needs one. A message to the id 0 goes to a name, and one to all ones goes to whom its
-/// filter fits.
+/// The kinds of which a command needs one. A message to the id 0 goes to a name, and one to all
+/// ones goes to whom its filter fits.
 pub(crate) fn needed_kinds(opcode: Opcode, flags: u64, own: &[u64]) -> &'static [u64]
     requires { length own.now ≡ word_count opcode }
     ensures { result.now ≡ needed_kinds opcode flags own.now }

@@ -1,4 +1,5 @@
-//! Every command and every reply as bytes, both ways. Layers above this one work on [`Command`] and [`Reply`] alone.
+//! Every command and every reply as bytes, both ways. Layers above this one work on [`Command`] and
+//! [`Reply`] alone.
 //!
 //! A frame is four words, the command's own words, and items:
 //!
@@ -11,7 +12,8 @@
 //! ```
 //!
 //! A reply has a code in place of the flags: 0 and the answer, or a refusal's number and one word.
-//! Each value has one spelling, which `specs/` gives command by command, and a reader takes that spelling alone.
+//! Each value has one spelling, which `specs/` gives command by command, and a reader takes that
+//! spelling alone.
 #![tactic(auto)]
 
 mod command;

@@ -1,7 +1,7 @@
 //! The numbers of commands.
 
 ghost use Rattle.std.specs.Prelude.{◌≡◌, ◌≤◌, IfSome};
-ghost use Rattle.kd_wire.specs.Opcodes.{number_of, opcode_of, word_count};
+ghost use Rattle.kd_wire.specs.Opcodes.{opcode_number, opcode_of, word_count};
 
 /// The greatest number of words that a command has of its own: those of a message.
 pub(crate) const MOST_WORDS: usize = 8;
@@ -33,7 +33,7 @@ pub enum Opcode {
 impl Opcode {
     /// The command word of a frame, from 1 to 19.
     pub fn number(self) -> u64
-        ensures { result ≡ number_of self }
+        ensures { result ≡ opcode_number self }
     {
         match self {
             Opcode::Hello => 1,
@@ -61,7 +61,7 @@ impl Opcode {
     /// The command of this number; None where no command has it.
     pub fn of(number: u64) -> Option<Opcode>
         ensures value { result ≡ opcode_of number }
-        ensures number { IfSome result (λ opcode. number_of opcode ≡ number) }
+        ensures number { IfSome result (λ opcode. opcode_number opcode ≡ number) }
     {
         match number {
             1 => Some(Opcode::Hello),
@@ -87,7 +87,8 @@ impl Opcode {
         }
     }
 
-    /// How many words of its own a command has in its frame, behind the four that each frame begins with.
+    /// How many words of its own a command has in its frame, behind the four that each frame begins
+    /// with.
     pub(crate) fn words(self) -> usize
         ensures value { result ≡ word_count self }
         ensures few { result ≤ 8 }

@@ -1,23 +1,25 @@
 //! Where frames come from.
 
 ghost use Rattle.std.specs.Prelude.{◌≡◌};
-ghost use Rattle.kd_wire.specs.Ports.{admits, runs};
+ghost use Rattle.kd_wire.specs.Ports.{takes_caller, takes_opcode};
 
 use crate::opcode::Opcode;
 
 /// Where a frame comes from, which decides who its caller may be and which commands there are.
 #[derive(Clone, Copy, Debug, PartialEq, Eq)]
 pub enum Port {
-    /// A recorded input of 64 callers, numbered from 1. The bus is there already, so no bus is made.
+    /// A recorded input of 64 callers, numbered from 1. The bus is there already, so no bus is
+    /// made.
     Replay,
-    /// A connected socket, whose caller is known from the socket and written as 0. It doesn't enter by a command.
+    /// A connected socket, whose caller is known from the socket and written as 0. It doesn't enter
+    /// by a command.
     Session,
 }
 
 impl Port {
     /// Whether a frame may name this caller: 1 to 64 in a replay, 0 in a session.
-    pub fn admits(self, caller: u64) -> bool
-        ensures { result ≡ admits self caller }
+    pub fn takes_caller(self, caller: u64) -> bool
+        ensures { result ≡ takes_caller self caller }
     {
         match self {
             Port::Replay => 1 <= caller && caller <= 64,
@@ -25,9 +27,10 @@ impl Port {
         }
     }
 
-    /// Whether the command is one of this place: a replay makes no bus, and a session has no command to enter.
-    pub fn runs(self, opcode: Opcode) -> bool
-        ensures { result ≡ runs self opcode }
+    /// Whether the command is one of this place: a replay makes no bus, and a session has no
+    /// command to enter.
+    pub fn takes_opcode(self, opcode: Opcode) -> bool
+        ensures { result ≡ takes_opcode self opcode }
     {
         match self {
             Port::Replay => opcode != Opcode::MakeBus,

@@ -5,10 +5,10 @@ ghost use Rattle.std.specs.Int.{w64, cast_unsigned};
 ghost use Rattle.std.specs.Int.RustNames.{FitsSigned};
 ghost use Rattle.kd_wire.specs.Typed.{HasSigned, IsTyped};
 ghost use Rattle.kd_item.specs.Spelling.{number};
-ghost use Rattle.kd_wire.specs.Ports.{admits, runs};
-ghost use Rattle.kd_wire.specs.Opcodes.{number_of, word_count};
+ghost use Rattle.kd_wire.specs.Ports.{takes_caller, takes_opcode};
+ghost use Rattle.kd_wire.specs.Opcodes.{opcode_number, word_count};
 ghost use Rattle.kd_wire.specs.Items.{kind_of, spelled};
-ghost use Rattle.kd_wire.specs.Commands.{bit, opcode_in, flags_of, words_of, items_of};
+ghost use Rattle.kd_wire.specs.Commands.{bit, opcode_in, flags_of, command_words, items_of};
 ghost use Rattle.kd_wire.specs.Frames.{cut_of, frame_of, frame_length, command_word};
 ghost use Rattle.kd_wire.specs.Refusals.{words_from, own_words, has_broken_words, AreParts, IsWellFormed, refusal_in, refusal_of, IsWhy};
 ghost use Rattle.kd_wire.specs.WellFormed.{is_well_formed};
@@ -29,7 +29,8 @@ use kd_types::{
 };
 use std::alloc::Global;
 
-/// Whether a command's words don't fit its frame, or the first word of a message isn't the size of its header and items.
+/// Whether a command's words don't fit its frame, or the first word of a message isn't the size of
+/// its header and items.
 fn has_broken_words(opcode: Opcode, frame: &[u8]) -> bool
     requires { 32 ≤ length frame.now }
     ensures { result ≡ has_broken_words opcode frame.now }
@@ -98,7 +99,7 @@ fn message_of(own: &[u8], items: Vec<WireItem>) -> Command
     requires sized { number own.now ≡ 64 + length (spelled items.items) }
     ensures opcode { opcode_in result ≡ Opcode.Send }
     ensures flags { flags_of result ≡ 0 }
-    ensures words { words_of result ≡ words_from 8 0 own.now }
+    ensures words { command_words result ≡ words_from 8 0 own.now }
     ensures items { items_of result ≡ items.items }
     ensures signed { HasSigned result }
 {
@@ -137,7 +138,7 @@ fn command_of(opcode: Opcode, flags: u64, own: &[u8], items: Vec<WireItem>) -> C
     requires parts { AreParts opcode flags (own_words opcode own.now) items.items }
     ensures opcode { opcode_in result ≡ opcode }
     ensures flags { flags_of result ≡ flags }
-    ensures words { words_of result ≡ own_words opcode own.now }
+    ensures words { command_words result ≡ own_words opcode own.now }
     ensures items { items_of result ≡ items.items }
     ensures signed { HasSigned result }
 {
@@ -215,9 +216,9 @@ fn read_as(
     opcode: Opcode,
 ) -> Result<(u64, Command), Refusal>
     requires frame { cut_of frame.now ≡ Cut.Frame (length frame.now) }
-    requires command { command_word frame.now ≡ number_of opcode }
+    requires command { command_word frame.now ≡ opcode_number opcode }
     ensures spelled { IfOk result (λ r. frame.now ≡ frame_of r.0 r.1) }
-    ensures caller { IfOk result (λ r. admits port r.0 ≡ true) }
+    ensures caller { IfOk result (λ r. takes_caller port r.0 ≡ true) }
     ensures command { IfOk result (λ r. opcode_in r.1 ≡ opcode) }
     ensures well_formed { IfOk result (λ r. IsWellFormed r.1) }
     ensures typed { IfOk result (λ r. IsTyped r.1) }
@@ -225,7 +226,7 @@ fn read_as(
     ensures refused { IfErr result (λ r. IsWhy r (refusal_in port opcode frame.now)) }
 {
     let caller = head(frame).caller;
-    if !port.admits(caller) {
+    if !port.takes_caller(caller) {
         return Err(Refusal::Malformed { at: 16 });
     }
     if has_broken_words(opcode, frame) {
@@ -246,13 +247,13 @@ fn read_as(
     Ok((caller, command_of(opcode, flags, own, items)))
 }
 
-/// The caller and the command of a whole frame, or the first of its refusals: Unsupported, Malformed, DoubledItem,
-/// MissingItem, BadFlags, in this order.
+/// The caller and the command of a whole frame, or the first of its refusals: Unsupported,
+/// Malformed, DoubledItem, MissingItem, BadFlags, in this order.
 pub fn read_command(alloc: Global, frame: &[u8], port: Port) -> Result<(u64, Command), Refusal>
     requires { cut_of frame.now ≡ Cut.Frame (length frame.now) }
     ensures spelled { IfOk result (λ r. frame.now ≡ frame_of r.0 r.1) }
-    ensures caller { IfOk result (λ r. admits port r.0 ≡ true) }
-    ensures command { IfOk result (λ r. runs port (opcode_in r.1) ≡ true) }
+    ensures caller { IfOk result (λ r. takes_caller port r.0 ≡ true) }
+    ensures command { IfOk result (λ r. takes_opcode port (opcode_in r.1) ≡ true) }
     ensures well_formed { IfOk result (λ r. IsWellFormed r.1) }
     ensures typed { IfOk result (λ r. IsTyped r.1) }
     ensures judged { IfOk result (λ r. IsTrue (is_well_formed r.1)) }
@@ -264,7 +265,7 @@ pub fn read_command(alloc: Global, frame: &[u8], port: Port) -> Result<(u64, Com
     let Some(opcode) = Opcode::of(command) else {
         return Err(Refusal::Unsupported { cmd: command });
     };
-    if !port.runs(opcode) {
+    if !port.takes_opcode(opcode) {
         return Err(Refusal::Unsupported { cmd: command });
     }
     read_as(alloc, frame, port, opcode)

@@ -2,8 +2,8 @@
 
 ghost use Rattle.std.specs.Prelude.{◌≡◌, ◌+◌, ◌^◌, ◌<◌, ◌≤◌, ◌⊎◌, if◌then◌else◌, length, Some, None, Ok, Err, IfOk, IfErr};
 ghost use Rattle.std.specs.Str.{is_utf8};
-ghost use Rattle.kd_item.specs.Reading.{entry};
-ghost use Rattle.kd_wire.specs.Reading.{text_item, id_item, change_item, change_in, item_in, may_follow, item_behind, items_in};
+ghost use Rattle.kd_item.specs.Reading.{item_entry};
+ghost use Rattle.kd_wire.specs.Reading.{text_item, id_item, change_item, change_item_in, id_item_in, filter_item_in, sealed_item_in, access_item_in, item_in, item_may_follow, item_behind, items_in};
 
 use crate::item::WireItem;
 use crate::kinds::{ACCESS, PAYLOAD, ends_in_group, how_many, is_one_of};
@@ -75,6 +75,59 @@ fn change_item(kind: u64, old: u64, new: u64, name: Text) -> Option<WireItem>
     }
 }
 
+/// What an item of one word says.
+fn id_item_in(kind: u64, body: &[u8]) -> Option<WireItem>
+    ensures { result ≡ id_item_in kind body.now }
+{
+    if body.len() == 8 {
+        id_item(kind, word_at(body, 0))
+    } else {
+        None
+    }
+}
+
+/// What a filter says: a generation, and bits.
+fn read_filter(alloc: Global, body: &[u8]) -> Result<Option<WireItem>, AllocError>
+    ensures { IfOk result (λ o. o ≡ filter_item_in body.now) }
+{
+    if body.len() < 8 {
+        return Ok(None);
+    }
+    let bits = read_bytes(alloc, body.split_at(8).1)?;
+    Ok(Some(WireItem::Filter {
+        generation: word_at(body, 0),
+        bits,
+    }))
+}
+
+/// What the range of a sealed message says.
+fn sealed_item_in(body: &[u8]) -> Option<WireItem>
+    ensures { result ≡ sealed_item_in body.now }
+{
+    if body.len() != 24 {
+        return None;
+    }
+    Some(WireItem::Sealed {
+        number: word_at(body, 0),
+        start: word_at(body, 8),
+        length: word_at(body, 16),
+    })
+}
+
+/// What an access says.
+fn access_item_in(body: &[u8]) -> Option<WireItem>
+    ensures { result ≡ access_item_in body.now }
+{
+    if body.len() != 24 {
+        return None;
+    }
+    Some(WireItem::Access {
+        subject: word_at(body, 0),
+        level: word_at(body, 8),
+        id: word_at(body, 16),
+    })
+}
+
 /// What an item says; None where its body isn't one of its kind.
 #[tactic(auto, unfolding(crate::specs::Reading::item_in))]
 fn read_item(alloc: Global, kind: u64, body: &[u8]) -> Result<Option<WireItem>, AllocError>
@@ -87,43 +140,19 @@ fn read_item(alloc: Global, kind: u64, body: &[u8]) -> Result<Option<WireItem>, 
         return Ok(Some(WireItem::Mask(read_bytes(alloc, body)?)));
     }
     if kind == 4 {
-        if body.len() < 8 {
-            return Ok(None);
-        }
-        let bits = read_bytes(alloc, body.split_at(8).1)?;
-        return Ok(Some(WireItem::Filter {
-            generation: word_at(body, 0),
-            bits,
-        }));
+        return read_filter(alloc, body);
     }
     if kind == 2 {
-        if body.len() != 24 {
-            return Ok(None);
-        }
-        return Ok(Some(WireItem::Sealed {
-            number: word_at(body, 0),
-            start: word_at(body, 8),
-            length: word_at(body, 16),
-        }));
+        return Ok(sealed_item_in(body));
     }
     if kind == 7 {
-        if body.len() != 24 {
-            return Ok(None);
-        }
-        return Ok(Some(WireItem::Access {
-            subject: word_at(body, 0),
-            level: word_at(body, 8),
-            id: word_at(body, 16),
-        }));
+        return Ok(access_item_in(body));
     }
     if kind > 13 {
         return read_change(alloc, kind, body);
     }
     if kind > 10 {
-        if body.len() != 8 {
-            return Ok(None);
-        }
-        return Ok(id_item(kind, word_at(body, 0)));
+        return Ok(id_item_in(kind, body));
     }
     if !is_text(body) {
         return Ok(None);
@@ -133,7 +162,7 @@ fn read_item(alloc: Global, kind: u64, body: &[u8]) -> Result<Option<WireItem>, 
 
 /// What an item of two ids and a name says.
 fn read_change(alloc: Global, kind: u64, body: &[u8]) -> Result<Option<WireItem>, AllocError>
-    ensures { IfOk result (λ o. o ≡ change_in kind body.now) }
+    ensures { IfOk result (λ o. o ≡ change_item_in kind body.now) }
 {
     if body.len() < 16 {
         return Ok(None);
@@ -150,10 +179,10 @@ fn read_change(alloc: Global, kind: u64, body: &[u8]) -> Result<Option<WireItem>
     ))
 }
 
-/// Whether an item of this kind may stand behind those before it: the command takes the kind, an ACCESS belongs to a
-/// group, and there are no more than sixteen PAYLOADs.
+/// Whether an item of this kind may stand behind those before it: the command takes the kind, an
+/// ACCESS belongs to a group, and there are no more than sixteen PAYLOADs.
 pub(crate) fn may_follow(kinds: &[u64], before: &[WireItem], kind: u64) -> bool
-    ensures { result ≡ may_follow kinds.now before.now kind }
+    ensures { result ≡ item_may_follow kinds.now before.now kind }
 {
     if !is_one_of(kinds, kind) {
         return false;
@@ -167,14 +196,15 @@ pub(crate) fn may_follow(kinds: &[u64], before: &[WireItem], kind: u64) -> bool
     true
 }
 
-/// What an item says behind those before it; None where it may not stand there or its body isn't one of its kind.
+/// What an item says behind those before it; None where it may not stand there or its body isn't
+/// one of its kind.
 fn read_behind(
     alloc: Global,
     kinds: &[u64],
     before: &[WireItem],
     item: Item<'_>,
 ) -> Result<Option<WireItem>, AllocError>
-    ensures { IfOk result (λ o. o ≡ item_behind kinds.now before.now (entry item.entry)) }
+    ensures { IfOk result (λ o. o ≡ item_behind kinds.now before.now (item_entry item.entry)) }
 {
     if !may_follow(kinds, before, item.kind) {
         return Ok(None);
@@ -182,8 +212,8 @@ fn read_behind(
     read_item(alloc, item.kind, item.body)
 }
 
-/// The items that the bytes from this place to the end of a frame spell, or the place of the first that breaks the
-/// format.
+/// The items that the bytes from this place to the end of a frame spell, or the place of the first
+/// that breaks the format.
 pub(crate) fn read_items(
     alloc: Global,
     kinds: &[u64],
@@ -192,7 +222,8 @@ pub(crate) fn read_items(
 ) -> Result<Vec<WireItem>, Refusal>
     requires { start + length bytes.now < 2 ^ 63 }
     ensures ok { IfOk result (λ v. items_in kinds.now start bytes.now ≡ Ok v.items) }
-    ensures refused { IfErr result (λ r. (r ≡ Refusal.OutOfMemory) ⊎ (items_in kinds.now start bytes.now ≡ Err r)) }
+    ensures refused { IfErr result
+        (λ r. (r ≡ Refusal.OutOfMemory) ⊎ (items_in kinds.now start bytes.now ≡ Err r)) }
 {
     let mut items = Vec::new(alloc);
     let mut rest = bytes;

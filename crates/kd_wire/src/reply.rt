@@ -11,7 +11,8 @@ use std::marker::Model;
 pub struct ListedItem {
     /// The connection.
     pub id: ConnId,
-    /// What it is to the name: 0 where connections are listed, 1 its owner, 2 queued for it, 4 its activator.
+    /// What it is to the name: 0 where connections are listed, 1 its owner, 2 queued for it, 4 its
+    /// activator.
     pub standing: u64,
     /// The name; empty where connections are listed.
     pub name: Text,
@@ -55,7 +56,8 @@ pub enum Reply {
         hashes: u64,
     },
     Send,
-    /// The slice's number, and where in the pool it lies; and how many messages were dropped before it.
+    /// The slice's number, and where in the pool it lies; and how many messages were dropped before
+    /// it.
     Recv {
         number: u64,
         offset: u64,

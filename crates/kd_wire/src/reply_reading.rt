@@ -1,10 +1,10 @@
 //! Reading replies.
 
-ghost use Rattle.std.specs.Prelude.{◌≡◌, ◌+◌, ◌*◌, ◌^◌, ◌<◌, ◌≤◌, ◌⊎◌, [], length, Ok, Err, IfOk, IfErr};
-ghost use Rattle.kd_item.specs.Reading.{entry};
+ghost use Rattle.std.specs.Prelude.{◌≡◌, ◌+◌, ◌*◌, ◌^◌, ◌<◌, ◌≤◌, [], length, Ok, IfOk, IfErr};
+ghost use Rattle.kd_item.specs.Reading.{item_entry};
 ghost use Rattle.kd_wire.specs.Frames.{command_word};
-ghost use Rattle.kd_wire.specs.Replies.{Answers, reply_frame, reply_length};
-ghost use Rattle.kd_wire.specs.ReplyReading.{head_break, words_break, with_words, acquired_in, run_of, read_in, line_in, lines_in, listing_in, answer_in, bare_refusal, refusal_from, refused_in, behind_head, reply_in};
+ghost use Rattle.kd_wire.specs.Replies.{IsReplyTo, reply_frame, reply_length};
+ghost use Rattle.kd_wire.specs.ReplyReading.{IsBreak, head_break, words_break, with_words, acquired_in, run_of, read_in, line_in, lines_in, listing_in, answer_in, bare_refusal, refusal_from, refused_in, behind_head, reply_in};
 
 use crate::cutting::{HEAD, head};
 use crate::opcode::Opcode;
@@ -36,8 +36,8 @@ fn head_break(bytes: &[u8]) -> Option<usize>
     None
 }
 
-/// Where a reply breaks that is nothing but so many words behind its head: at the first word that is missing, or at what
-/// is left over.
+/// Where a reply breaks that is nothing but so many words behind its head: at the first word that
+/// is missing, or at what is left over.
 fn words_break(count: usize, bytes: &[u8]) -> Option<u64>
     requires few { count ≤ 4 }
     requires head { 32 ≤ length bytes.now }
@@ -143,7 +143,7 @@ fn read_acquired(bytes: &[u8]) -> Result<Reply, ReplyError>
 fn read_run(alloc: Global, count: u64, bytes: &[u8]) -> Result<Reply, ReplyError>
     requires { length bytes.now < 2 ^ 63 }
     ensures ok { IfOk result (λ r. run_of count bytes.now ≡ Ok r) }
-    ensures bad { IfErr result (λ e. (e ≡ ReplyError.OutOfMemory) ⊎ (run_of count bytes.now ≡ Err e)) }
+    ensures bad { IfErr result (λ e. IsBreak e (run_of count bytes.now)) }
 {
     if (bytes.len() as u64) < count {
         return Err(ReplyError::Bad { at: 40 });
@@ -170,7 +170,7 @@ fn read_run(alloc: Global, count: u64, bytes: &[u8]) -> Result<Reply, ReplyError
 /// What an item says as a line of a listing.
 #[tactic(auto, unfolding(crate::specs::ReplyReading::line_in))]
 fn read_line(alloc: Global, item: Item<'_>) -> Result<Option<ListedItem>, AllocError>
-    ensures { IfOk result (λ o. o ≡ line_in (entry item.entry)) }
+    ensures { IfOk result (λ o. o ≡ line_in (item_entry item.entry)) }
 {
     if item.kind != 24 {
         return Ok(None);
@@ -198,7 +198,7 @@ fn read_lines(
 ) -> Result<Vec<ListedItem>, ReplyError>
     requires { start + length bytes.now < 2 ^ 63 }
     ensures ok { IfOk result (λ v. lines_in count start [] bytes.now ≡ Ok v.items) }
-    ensures bad { IfErr result (λ e. (e ≡ ReplyError.OutOfMemory) ⊎ (lines_in count start [] bytes.now ≡ Err e)) }
+    ensures bad { IfErr result (λ e. IsBreak e (lines_in count start [] bytes.now)) }
 {
     let mut lines = Vec::new(alloc);
     let mut rest = bytes;
@@ -226,7 +226,7 @@ fn read_lines(
 fn read_listing(alloc: Global, bytes: &[u8]) -> Result<Reply, ReplyError>
     requires { length bytes.now < 2 ^ 63 }
     ensures ok { IfOk result (λ r. listing_in bytes.now ≡ Ok r) }
-    ensures bad { IfErr result (λ e. (e ≡ ReplyError.OutOfMemory) ⊎ (listing_in bytes.now ≡ Err e)) }
+    ensures bad { IfErr result (λ e. IsBreak e (listing_in bytes.now)) }
 {
     if bytes.len() < 40 {
         return Err(ReplyError::Bad { at: 32 });
@@ -241,7 +241,7 @@ fn read_listing(alloc: Global, bytes: &[u8]) -> Result<Reply, ReplyError>
 fn read_read(alloc: Global, bytes: &[u8]) -> Result<Reply, ReplyError>
     requires { length bytes.now < 2 ^ 63 }
     ensures ok { IfOk result (λ r. read_in bytes.now ≡ Ok r) }
-    ensures bad { IfErr result (λ e. (e ≡ ReplyError.OutOfMemory) ⊎ (read_in bytes.now ≡ Err e)) }
+    ensures bad { IfErr result (λ e. IsBreak e (read_in bytes.now)) }
 {
     if bytes.len() < 40 {
         return Err(ReplyError::Bad { at: 32 });
@@ -254,7 +254,7 @@ fn read_answer(alloc: Global, opcode: Opcode, bytes: &[u8]) -> Result<Reply, Rep
     requires head { 32 ≤ length bytes.now }
     requires bound { length bytes.now < 2 ^ 63 }
     ensures ok { IfOk result (λ r. answer_in opcode bytes.now ≡ Ok r) }
-    ensures bad { IfErr result (λ e. (e ≡ ReplyError.OutOfMemory) ⊎ (answer_in opcode bytes.now ≡ Err e)) }
+    ensures bad { IfErr result (λ e. IsBreak e (answer_in opcode bytes.now)) }
 {
     match opcode {
         Opcode::Hello => read_hello(bytes),
@@ -360,7 +360,7 @@ fn read_behind_head(alloc: Global, bytes: &[u8]) -> Result<Reply, ReplyError>
     requires head { 32 ≤ length bytes.now }
     requires bound { length bytes.now < 2 ^ 63 }
     ensures ok { IfOk result (λ r. behind_head bytes.now ≡ Ok r) }
-    ensures bad { IfErr result (λ e. (e ≡ ReplyError.OutOfMemory) ⊎ (behind_head bytes.now ≡ Err e)) }
+    ensures bad { IfErr result (λ e. IsBreak e (behind_head bytes.now)) }
 {
     let code = word_at(bytes, 24);
     if code != 0 {
@@ -377,11 +377,11 @@ fn read_behind_head(alloc: Global, bytes: &[u8]) -> Result<Reply, ReplyError>
 pub fn read_reply(alloc: Global, bytes: &[u8]) -> Result<(u64, Reply), ReplyError>
     // What is read is spelled so, and is an answer to the command that it names.
     ensures spelled { IfOk result (λ r. bytes.now ≡ reply_frame (command_word bytes.now) r.0 r.1) }
-    ensures answers { IfOk result (λ r. Answers (command_word bytes.now) r.1) }
+    ensures answers { IfOk result (λ r. IsReplyTo (command_word bytes.now) r.1) }
     ensures size { IfOk result (λ r. reply_length r.1 ≡ length bytes.now) }
     ensures read { IfOk result (λ r. reply_in bytes.now ≡ Ok r.1) }
     // The first place that breaks the format.
-    ensures bad { IfErr result (λ e. (e ≡ ReplyError.OutOfMemory) ⊎ (reply_in bytes.now ≡ Err e)) }
+    ensures bad { IfErr result (λ e. IsBreak e (reply_in bytes.now)) }
 {
     if let Some(at) = head_break(bytes) {
         return Err(ReplyError::Bad { at: at as u64 });

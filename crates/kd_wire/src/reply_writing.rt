@@ -2,7 +2,7 @@
 
 ghost use Rattle.std.specs.Prelude.{◌≡◌, ◌+◌, ◌*◌, ◌^◌, ◌<◌, ◌≤◌, ◌≢◌, ◌++◌, length, vec_len, vec_capacity, OnOk, OnErr};
 ghost use Rattle.kd_item.specs.Spelling.{words, spelling, item_length};
-ghost use Rattle.kd_wire.specs.Replies.{Answers, code_of, listed_entry, listing, words_of, tail_of, reply_frame, reply_length};
+ghost use Rattle.kd_wire.specs.Replies.{IsReplyTo, code_of, listed_entry, listing_bytes, reply_words, tail_of, reply_frame, reply_length};
 
 use crate::cutting::HEAD;
 use crate::reply::{ListedItem, Reply};
@@ -13,8 +13,8 @@ use std::alloc::AllocError;
 
 /// How many bytes the lines take as items.
 fn listing_length(lines: &[ListedItem]) -> usize
-    requires { length (listing lines.now) < 2 ^ 63 }
-    ensures { result ≡ length (listing lines.now) }
+    requires { length (listing_bytes lines.now) < 2 ^ 63 }
+    ensures { result ≡ length (listing_bytes lines.now) }
 {
     let mut total = 0;
     for line in lines {
@@ -35,8 +35,8 @@ fn put_line(out: &mut Vec<u8>, line: &ListedItem)
 
 /// Adds lines for which there is room, in order.
 fn put_listing(out: &mut Vec<u8>, lines: &[ListedItem])
-    requires { vec_len out.old + length (listing lines.now) ≤ vec_capacity out.old }
-    ensures { out.new.items ≡ out.old.items ++ listing lines.now }
+    requires { vec_len out.old + length (listing_bytes lines.now) ≤ vec_capacity out.old }
+    ensures { out.new.items ≡ out.old.items ++ listing_bytes lines.now }
 {
     for line in lines {
         put_line(out, line);
@@ -45,7 +45,7 @@ fn put_listing(out: &mut Vec<u8>, lines: &[ListedItem])
 
 /// How many words a reply has behind its code.
 fn word_count(reply: &Reply) -> usize
-    ensures { result ≡ length (words_of reply.now) }
+    ensures { result ≡ length (reply_words reply.now) }
 {
     match reply {
         Reply::Recv { .. } => 4,
@@ -85,9 +85,9 @@ fn code(reply: &Reply) -> u64
 
 /// Adds the words behind the code, for which there is room.
 fn put_own_words(out: &mut Vec<u8>, reply: &Reply)
-    requires { vec_len out.old + 8 * length (words_of reply.now) ≤ vec_capacity out.old }
-    ensures items { out.new.items ≡ out.old.items ++ words (words_of reply.now) }
-    ensures len { vec_len out.new ≡ vec_len out.old + 8 * length (words_of reply.now) }
+    requires { vec_len out.old + 8 * length (reply_words reply.now) ≤ vec_capacity out.old }
+    ensures items { out.new.items ≡ out.old.items ++ words (reply_words reply.now) }
+    ensures len { vec_len out.new ≡ vec_len out.old + 8 * length (reply_words reply.now) }
     ensures room { vec_capacity out.old ≤ vec_capacity out.new }
 {
     match reply {
@@ -131,10 +131,11 @@ pub fn write_reply(
     reply: &Reply,
 ) -> Result<(), AllocError>
     // It is one of the command's own, or a refusal that has a number.
-    requires answers { Answers command reply.now }
+    requires answers { IsReplyTo command reply.now }
     // Its size fits a word.
     requires size { reply_length reply.now < 2 ^ 63 }
-    ensures ok { OnOk result (out.new.items ≡ out.old.items ++ reply_frame command caller reply.now) }
+    ensures ok { OnOk result (out.new.items
+        ≡ out.old.items ++ reply_frame command caller reply.now) }
     ensures err { OnErr result (out.new.items ≡ out.old.items) }
 {
     let size = HEAD + 8 * word_count(reply) + tail_length(reply);

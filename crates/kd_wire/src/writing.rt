@@ -2,8 +2,8 @@
 
 ghost use Rattle.std.specs.Prelude.{◌≡◌, ◌+◌, ◌*◌, ◌^◌, ◌<◌, ◌≤◌, ◌++◌, length, vec_len, vec_capacity, OnOk, OnErr};
 ghost use Rattle.kd_item.specs.Spelling.{words, spelling, item_length};
-ghost use Rattle.kd_wire.specs.Items.{entry_of, spelled, wire_length};
-ghost use Rattle.kd_wire.specs.Commands.{items_of, words_of};
+ghost use Rattle.kd_wire.specs.Items.{wire_entry, spelled, wire_length};
+ghost use Rattle.kd_wire.specs.Commands.{items_of, command_words};
 ghost use Rattle.kd_wire.specs.Frames.{frame_of};
 ghost use Rattle.kd_wire.specs.Refusals.{IsWellFormed};
 
@@ -37,7 +37,7 @@ fn items_length(items: &[WireItem]) -> usize
 /// Adds an item for which there is room.
 fn put_item(out: &mut Vec<u8>, item: &WireItem)
     requires { vec_len out.old + wire_length item.now ≤ vec_capacity out.old }
-    ensures items { out.new.items ≡ out.old.items ++ spelling (entry_of item.now) }
+    ensures items { out.new.items ≡ out.old.items ++ spelling (wire_entry item.now) }
     ensures len { vec_len out.new ≡ vec_len out.old + wire_length item.now }
     ensures room { vec_capacity out.old ≤ vec_capacity out.new }
 {
@@ -121,9 +121,10 @@ fn put_items_of(out: &mut Vec<u8>, command: &Command)
 fn put_own_words(out: &mut Vec<u8>, command: &Command, items_length: usize)
     requires items { items_length ≡ length (spelled (items_of command.now)) }
     requires bound { items_length < 2 ^ 63 }
-    requires room { vec_len out.old + 8 * length (words_of command.now) ≤ vec_capacity out.old }
-    ensures items { out.new.items ≡ out.old.items ++ words (words_of command.now) }
-    ensures len { vec_len out.new ≡ vec_len out.old + 8 * length (words_of command.now) }
+    requires room { vec_len out.old + 8 * length (command_words command.now)
+        ≤ vec_capacity out.old }
+    ensures items { out.new.items ≡ out.old.items ++ words (command_words command.now) }
+    ensures len { vec_len out.new ≡ vec_len out.old + 8 * length (command_words command.now) }
     ensures room { vec_capacity out.old ≤ vec_capacity out.new }
 {
     let mut room = [0; MOST_WORDS];

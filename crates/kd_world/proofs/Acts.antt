@@ -5,16 +5,16 @@ use Rattle.std.proofs.lemmas.Bool.{true≢false}
 use Rattle.std.proofs.lemmas.List.{get_or_past}
 use mathlib.Core.Logic.{dite}
 use native.Mathlib.Decide.{dec_le, ℕ_discrete}
-use Rattle.kd_pool.specs.State.{Act, Answer, Hold, Image, Visit, by_desk, close, drain, free, idle, offer, post, publish, raise, read, receive, settle}
-use Rattle.kd_pool.specs.Steps.{after, answer}
-use Rattle.kd_pool.specs.Lasting.{is_let_be, is_open, open_after}
-use Rattle.kd_desk.specs.State.{Desk}
-use Rattle.kd_desk.specs.Seating.{open_along, open_at}
-use Rattle.kd_desk.specs.Send.{Part}
-use Rattle.kd_desk.specs.Step.{images_in, met, next_part, with_images}
-use Rattle.kd_world.specs.World.{closed}
+use Rattle.kd_acts.specs.State.{Act, Answer, Hold, Image, Visit, by_desk, close, drain, free, idle, offer, post, publish, raise, read, receive, settle}
+use Rattle.kd_acts.specs.Steps.{after, answer}
+use Rattle.kd_acts.specs.Lasting.{is_let_be, is_open, open_after}
+use Rattle.kd_commands.specs.State.{Desk}
+use Rattle.kd_commands.specs.Plans.{Part}
+use Rattle.kd_commands.specs.Visits.{images_in, met, next_part, with_images}
+use Rattle.kd_commands.specs.Seating.{open_along, open_at}
+use Rattle.kd_world.specs.State.{closed_pool}
 use Rattle.kd_world.proofs.Agreeing.{Agrees, Face, acted_quietly, but_at, each, is_quiet, set_reads}
-use Rattle.kd_pool.proofs.Lasting.{open_follows}
+use Rattle.kd_acts.proofs.Lasting.{open_follows}
 
 -- ---- up pools along the visits
 
@@ -47,13 +47,13 @@ along_more s is (p ∷ ps) (x ∷ outs) o q b e = along_more s (is ++ images_in 
 -- ---- a pool of a list, and one that isn't in it
 
 module _ (pools : List Hold) (s : ℕ) (h : Hold) where
-  pub set_pool : s < length pools → (k : ℕ) → get_or (set pools s h) k closed ≡ but_at (λ i. get_or pools i closed) s h k
-  set_pool lt k = set_reads pools s k h closed lt
+  pub set_pool : s < length pools → (k : ℕ) → get_or (set pools s h) k closed_pool ≡ but_at (λ i. get_or pools i closed_pool) s h k
+  set_pool lt k = set_reads pools s k h closed_pool lt
 
-  pub set_nowhere : length pools ≤ s → (k : ℕ) → get_or (set pools s h) k closed ≡ get_or pools k closed
+  pub set_nowhere : length pools ≤ s → (k : ℕ) → get_or (set pools s h) k closed_pool ≡ get_or pools k closed_pool
   set_nowhere le = past pools s le
     where
-      past : (xs : List Hold) (s : ℕ) → length xs ≤ s → (k : ℕ) → get_or (set xs s h) k closed ≡ get_or xs k closed
+      past : (xs : List Hold) (s : ℕ) → length xs ≤ s → (k : ℕ) → get_or (set xs s h) k closed_pool ≡ get_or xs k closed_pool
       past [] s le k = refl
       past (x ∷ xs) zero le k = absurd (omega (arith, le))
       past (x ∷ xs) (suc s) le zero = refl
@@ -86,9 +86,9 @@ quiet_closed (read number wants) o q = refl
 quiet_closed (free number) o q = refl
 quiet_closed idle o q = refl
 
-module _ (d : Desk) (pools : List Hold) (face : ℕ → Face) (up : ℕ → Bool) (r : Agrees d (λ k. get_or pools k closed) face up) (s : ℕ) (a : Act) (quiet : is_quiet a ≡ true) where
+module _ (d : Desk) (pools : List Hold) (face : ℕ → Face) (up : ℕ → Bool) (r : Agrees d (λ k. get_or pools k closed_pool) face up) (s : ℕ) (a : Act) (quiet : is_quiet a ≡ true) where
   abbrev pool : ℕ → Hold
-  pool = λ k. get_or pools k closed
+  pool = λ k. get_or pools k closed_pool
 
   abbrev now : Hold
   now = after (pool s) a
@@ -97,13 +97,13 @@ module _ (d : Desk) (pools : List Hold) (face : ℕ → Face) (up : ℕ → Bool
   said = answer (pool s) a
 
   -- an act that moves nothing into a hand or out of it, at any pool
-  pub acts_quietly : (up' : ℕ → Bool) → up' s ≡ open_after a said (up s) → ((k : ℕ) → k ≢ s → up' k ≡ up k) → Agrees d (λ k. get_or (set pools s now) k closed) face up'
+  pub acts_quietly : (up' : ℕ → Bool) → up' s ≡ open_after a said (up s) → ((k : ℕ) → k ≢ s → up' k ≡ up k) → Agrees d (λ k. get_or (set pools s now) k closed_pool) face up'
   acts_quietly up' here_open else_open = dite (dec_le (length pools) s)
-      (λ le. with_pools d pool (λ k. get_or (set pools s now) k closed) face up' (λ k. sym (set_nowhere pools s now le k))
+      (λ le. with_pools d pool (λ k. get_or (set pools s now) k closed_pool) face up' (λ k. sym (set_nowhere pools s now le k))
       (with_open d pool face up up' (λ k. dite (ℕ_discrete k s)
-      (λ z. let shut : up s ≡ false = sym (r.opens s) ∙ ap is_open (get_or_past pools s closed le) in
+      (λ z. let shut : up s ≡ false = sym (r.opens s) ∙ ap is_open (get_or_past pools s closed_pool le) in
       subst (λ i. up i ≡ up' i) (sym z) (shut ∙ sym (here_open ∙ ap (open_after a said) shut ∙ quiet_closed a said quiet)))
       (λ ne. sym (else_open k ne))) r))
-      (λ gt. with_pools d (but_at pool s now) (λ k. get_or (set pools s now) k closed) face up' (λ k. sym (set_pool pools s now (omega (arith, gt)) k))
+      (λ gt. with_pools d (but_at pool s now) (λ k. get_or (set pools s now) k closed_pool) face up' (λ k. sym (set_pool pools s now (omega (arith, gt)) k))
       (acted_quietly d pool face up r s a up'
       (each (λ k h. is_open h ≡ up' k) pool s now (open_follows (pool s) a ∙ ap (open_after a said) (r.opens s) ∙ sym here_open) (λ k ne. r.opens k ∙ sym (else_open k ne))) quiet))

@@ -5,20 +5,20 @@ use Rattle.std.proofs.lemmas.Bool.{true≢false}
 use mathlib.Core.Logic.{dite}
 use native.Mathlib.Decide.{ℕ_discrete}
 use Rattle.kd_types.specs.declared.creds.Kind.{Kind}
-use Rattle.kd_pool.specs.declared.receive.RecvMode.{RecvMode}
-use Rattle.kd_pool.specs.State.{Act, Answer, Hold, by_desk, close, drain, free, idle, offer, post, publish, raise, read, receive, settle}
-use Rattle.kd_pool.specs.Steps.{after, answer}
-use Rattle.kd_pool.specs.Lasting.{AreNumbered, handed_after, hands_over, is_handed_in, is_let_be, is_open, open_after}
-use Rattle.kd_desk.specs.declared.who.WhoKind.{WhoKind}
-use Rattle.kd_desk.specs.declared.who.WhoKind.TheVariants as who
-use Rattle.kd_desk.specs.State.{Desk, is_holder}
-use Rattle.kd_desk.specs.Seating.{AreSeated, IsElsewhere, IsKnown}
+use Rattle.kd_acts.specs.declared.receive.RecvMode.{RecvMode}
+use Rattle.kd_acts.specs.State.{Act, Answer, Hold, by_desk, close, drain, free, idle, offer, post, publish, raise, read, receive, settle}
+use Rattle.kd_acts.specs.Steps.{after, answer}
+use Rattle.kd_acts.specs.Lasting.{AreNumbered, handed_after, hands_over, is_handed_in, is_let_be, is_open, open_after}
+use Rattle.kd_commands.specs.declared.who.WhoKind.{WhoKind}
+use Rattle.kd_commands.specs.declared.who.WhoKind.TheVariants as who
+use Rattle.kd_commands.specs.State.{Desk, is_holder}
+use Rattle.kd_commands.specs.Seating.{AreSeated, IsElsewhere, IsKnown}
 use Rattle.kd_world.specs.declared.told.Told.{Told}
 use Rattle.kd_world.specs.declared.told.Told.TheVariants.{Peeked, Handed}
-use Rattle.kd_world.specs.Agreed.{is_told_handed}
 use Rattle.kd_world.specs.Hands.{told_by}
-use Rattle.kd_pool.proofs.Handed.{handed_follows}
-use Rattle.kd_pool.proofs.Lasting.{open_follows, numbers_stay}
+use Rattle.kd_world.specs.Agreed.{is_told_handed}
+use Rattle.kd_acts.proofs.Handed.{handed_follows}
+use Rattle.kd_acts.proofs.Lasting.{open_follows, numbers_stay}
 
 -- the function, but for one place
 abbrev pub but_at : {A : Type 0} → (ℕ → A) → ℕ → A → ℕ → A
@@ -69,7 +69,8 @@ pub record Agrees (d : Desk) (pool : ℕ → Hold) (face : ℕ → Face) (up : �
   pub agreed : (i id s n : ℕ) → (face i).member ≡ who.Conn id s → is_open (pool s) ≡ true → has (face i) n ≡ is_handed_in n (pool s)
   pub unowned : (s n : ℕ) → ((i id : ℕ) → (face i).member ≡ who.Conn id s → ⊥) → is_handed_in n (pool s) ≡ false
 
--- an act of the desk's holder that opens no pool, or one that moves no message into a hand or out of it
+-- an act of the desk's holder that opens no pool, or one that moves no message into a hand or out
+-- of it
 abbrev pub is_quiet : Act → Bool
 is_quiet (by_desk (raise size)) = false
 is_quiet (receive mode) = false
@@ -128,7 +129,8 @@ module _ (d : Desk) (pool : ℕ → Hold) (face : ℕ → Face) (up : ℕ → Bo
   still_numbered : (k : ℕ) → AreNumbered (pools k).pool
   still_numbered = each (λ k h. AreNumbered h.pool) pool s now (numbers_stay (pool s) a (r.numbered s)) (λ k _. r.numbered k)
 
-  -- an act at a pool that moves nothing into a hand or out of it, and opens none that anybody sits at
+  -- an act at a pool that moves nothing into a hand or out of it, and opens none that anybody sits
+  -- at
   module _ (up' : ℕ → Bool) (opened : (k : ℕ) → is_open (pools k) ≡ up' k)
       (none : (n : ℕ) → is_handed_in n (pool s) ≡ false → is_handed_in n now ≡ false)
       (keeps : (i id n : ℕ) → (face i).member ≡ who.Conn id s → is_open now ≡ true → (is_open (pool s) ≡ true) × (is_handed_in n now ≡ is_handed_in n (pool s))) where

@@ -5,21 +5,28 @@ use Rattle.std.proofs.Common.{ap, sym, subst, ◌∙◌, arith, eqb-true}
 use Rattle.std.proofs.lemmas.Bool.{true≢false}
 use Rattle.kd_model.proofs.Lists.{all_of_found}
 use Rattle.kd_wire.specs.WellFormed.{is_well_formed}
-use Rattle.kd_pool.specs.declared.receive.RecvMode.{RecvMode}
-use Rattle.kd_pool.specs.State.{Act, Hold, free, publish, read, receive}
-use Rattle.kd_pool.specs.Steps.{after}
-use Rattle.kd_pool.proofs.Reserved.{owed_arrives, takes, turns}
-use Rattle.kd_desk.specs.declared.who.Who.{Who}
-use Rattle.kd_desk.specs.State.{Desk}
-use Rattle.kd_desk.specs.Send.{Part}
+use Rattle.kd_acts.specs.declared.receive.RecvMode.{RecvMode}
+use Rattle.kd_acts.specs.State.{Act, Hold, free, publish, read, receive}
+use Rattle.kd_acts.specs.Steps.{after}
+use Rattle.kd_acts.proofs.Reserved.{owed_arrives, takes, turns}
+use Rattle.kd_commands.specs.declared.who.Who.{Who}
+use Rattle.kd_commands.specs.State.{Desk}
+use Rattle.kd_commands.specs.Plans.{Part}
 use Rattle.kd_world.specs.declared.told.Told.{Told}
 use Rattle.kd_world.specs.declared.told.Told.TheVariants.{Peeked, Handed}
-use Rattle.kd_world.specs.Agreed.{IsReached}
 use Rattle.kd_world.specs.Hands.{hand_freed, hand_received}
+use Rattle.kd_world.specs.State.{Pending, Caller, Holder, World, caller_at, closed_pool, new_world, pool_at, stranger}
+use Rattle.kd_world.specs.Planner.{planned}
+use Rattle.kd_world.specs.Holding.{holds_desk, next_visit, parts_held}
+use Rattle.kd_world.specs.Own.{is_pending_at, pending_of, pool_seat, hand_entry}
+use Rattle.kd_world.specs.Legal.{Event, frees, is_caller, is_for_desk, is_part_at, leave, legal, publishes, reads, receives, take, visit}
+use Rattle.kd_world.specs.Pools.{Aimed, act_at, act_of, free_of, pools_after, pool_answer}
+use Rattle.kd_world.specs.Callers.{has_published, without_first}
+use Rattle.kd_world.specs.Step.{step}
+use Rattle.kd_world.specs.Runs.{all_legal, world_after, IsReached}
 use Rattle.kd_world.specs.Owed.{PublishesAlwaysArrive}
-use Rattle.kd_world.specs.Pendings.{Pending}
-use Rattle.kd_world.specs.World.{Aimed, Caller, Event, Holder, World, act_at, act_of, all_legal, caller_at, closed, free_of, frees, has_published, holds_desk, is_caller, is_for_desk, is_part_at, is_pending_at, leave, legal, new_world, next_visit, parts_held, pending_of, planned, pools_after, pool_answer, pool_at, publishes, reads, receives, runs, seat_of, step, stranger, take, told_of, visit, without_first}
-use Rattle.kd_world.proofs.Tied.{first_half, of, second}
+use Rattle.kd_model.proofs.Truth.{left_true, right_true}
+use Rattle.kd_world.proofs.Tied.{of}
 use Rattle.kd_world.proofs.Agreeing.{but_at, each, here, there}
 use Rattle.kd_world.proofs.Holders.{Kept, answer_is, caller_index, pools_are, pools_by, pools_of, take_is}
 use Rattle.kd_world.proofs.Own.{free_act, free_is, publish_act, publish_is, read_act, read_is, receive_act, receive_is}
@@ -32,7 +39,7 @@ use Rattle.kd_world.proofs.Owing.{IsDue, Owes, first_less, owes_less, owes_still
 
 -- what was made depends on the pools' generations alone
 made_same : (d : Desk) (o : Option Holder) (pools later : List Hold) (callers others : List Caller)
-    → ((s : ℕ) → (get_or later s closed).generation ≡ (get_or pools s closed).generation) → (i : ℕ)
+    → ((s : ℕ) → (get_or later s closed_pool).generation ≡ (get_or pools s closed_pool).generation) → (i : ℕ)
     → made_by (of d o later others) o i ≡ made_by (of d o pools callers) o i
 made_same d None pools later callers others same i = refl
 made_same d (Some h) pools later callers others same i =
@@ -60,7 +67,7 @@ module _ (d : Desk) (o : Option Holder) (pools : List Hold) (callers : List Call
       go None f t = absurd (true≢false (sym t))
       go (Some p) f t =
           let act : Act = publish p.generation p.number p.content in
-          let pools' : List Hold = set pools p.seat (after (get_or pools p.seat closed) act) in
+          let pools' : List Hold = set pools p.seat (after (get_or pools p.seat closed_pool) act) in
           let rest : List Pending = without_first (is_pending_at s number) c.pendings in
           let w' : World = of d o pools' (set callers place (has_published s number c)) in
           let same : (j : ℕ) → made_by w' o j ≡ made_by v o j =
@@ -93,7 +100,7 @@ module _ (d : Desk) (o : Option Holder) (pools : List Hold) (callers : List Call
   quiet_free s m (Some Peeked) = tt
   quiet_free s m (Some Handed) = quiet_at s (free m) refl (λ g n. refl)
 
-  generations : (a : Option Aimed) → IsQuiet a → (t : ℕ) → (get_or (pools_by a pools) t closed).generation ≡ (get_or pools t closed).generation
+  generations : (a : Option Aimed) → IsQuiet a → (t : ℕ) → (get_or (pools_by a pools) t closed_pool).generation ≡ (get_or pools t closed_pool).generation
   generations None q t = refl
   generations (Some a) q t = same_generations pools k.agrees.numbered a.seat a.act q.0 t
 
@@ -127,22 +134,22 @@ module _ (d : Desk) (o : Option Holder) (pools : List Hold) (callers : List Call
   receive_owes mode =
       let hand : List (Option Told) = hand_received mode (pool_answer v (receives n mode)) c.hand in
       subst OwesWell (receive_is d o pools callers n mode)
-      (quiet_owes (receives n mode) (act_at (seat_of c) (receive mode)) (set callers place (handed hand)) (receive_act v n mode (seat_of c) refl)
-      (quiet_at (seat_of c) (receive mode) refl (λ g m. refl)) (hand_owes hand))
+      (quiet_owes (receives n mode) (act_at (pool_seat c) (receive mode)) (set callers place (handed hand)) (receive_act v n mode (pool_seat c) refl)
+      (quiet_at (pool_seat c) (receive mode) refl (λ g m. refl)) (hand_owes hand))
 
   pub read_owes : (number : ℕ) (sealed : Bool) → OwesWell (step v (reads n number sealed))
   read_owes number sealed =
       subst OwesWell (read_is d o pools callers n number sealed)
-      (quiet_owes (reads n number sealed) (act_at (seat_of c) (read number sealed)) callers (read_act v n number sealed (seat_of c) refl)
-      (quiet_at (seat_of c) (read number sealed) refl (λ g m. refl)) (λ j. refl))
+      (quiet_owes (reads n number sealed) (act_at (pool_seat c) (read number sealed)) callers (read_act v n number sealed (pool_seat c) refl)
+      (quiet_at (pool_seat c) (read number sealed) refl (λ g m. refl)) (λ j. refl))
 
   pub free_owes : (number : ℕ) → OwesWell (step v (frees n number))
   free_owes number =
-      let t : Option Told = told_of c number in
+      let t : Option Told = hand_entry c number in
       let hand : List (Option Told) = hand_freed number t c.hand in
       subst OwesWell (free_is d o pools callers n number)
-      (quiet_owes (frees n number) (free_of (seat_of c) number t) (set callers place (handed hand)) (free_act v n number t refl)
-      (quiet_free (seat_of c) number t) (hand_owes hand))
+      (quiet_owes (frees n number) (free_of (pool_seat c) number t) (set callers place (handed hand)) (free_act v n number t refl)
+      (quiet_free (pool_seat c) number t) (hand_owes hand))
 
 -- ---- one event, and any number
 
@@ -153,43 +160,43 @@ one d None pools callers (take n x) k r l =
     let who : Who = (caller_at (of d None pools callers) n).who in
     subst OwesWell (take_is d pools callers n x) (take_owes d pools callers n x who (planned d who x) r)
 one d (Some h) pools callers (take n x) k r l =
-    let fits = first_half (is_caller n && false && is_for_desk x) (is_well_formed x) l in
-    absurd (true≢false (sym (second (is_caller n) false (first_half (is_caller n && false) (is_for_desk x) fits))))
-one d None pools callers (visit n s) k r l = absurd (true≢false (sym (second (is_caller n) false l)))
+    let fits = left_true (is_caller n && false && is_for_desk x) (is_well_formed x) l in
+    absurd (true≢false (sym (right_true (is_caller n) false (left_true (is_caller n && false) (is_for_desk x) fits))))
+one d None pools callers (visit n s) k r l = absurd (true≢false (sym (right_true (is_caller n) false l)))
 one d (Some h) pools callers (visit n s) k r l =
     let there = is_part_at s (next_visit (of d (Some h) pools callers) h) in
-    go (next_visit (of d (Some h) pools callers) h) refl (second (h.caller == n) there (second (is_caller n) (h.caller == n && there) l))
+    go (next_visit (of d (Some h) pools callers) h) refl (right_true (h.caller == n) there (right_true (is_caller n) (h.caller == n && there) l))
   where
     go : (q : Option Part) → next_visit (of d (Some h) pools callers) h ≡ q → is_part_at s q ≡ true → OwesWell (step (of d (Some h) pools callers) (visit n s))
     go None e t = absurd (true≢false (sym t))
     go (Some q) e t = visit_owes d h pools callers k r n s q e
-one d None pools callers (leave n) k r l = absurd (true≢false (sym (second (is_caller n) false l)))
+one d None pools callers (leave n) k r l = absurd (true≢false (sym (right_true (is_caller n) false l)))
 one d (Some h) pools callers (leave n) k r l =
     let left = is_none (next_visit (of d (Some h) pools callers) h) in
     subst (λ m. OwesWell (step (of d (Some h) pools callers) (leave m)))
-    (eqb-true h.caller n (first_half (h.caller == n) left (second (is_caller n) (h.caller == n && left) l))) (leave_owes d h pools callers k r)
+    (eqb-true h.caller n (left_true (h.caller == n) left (right_true (is_caller n) (h.caller == n && left) l))) (leave_owes d h pools callers k r)
 one d o pools callers (publishes n s number) k r l =
     let w : World = of d o pools callers in
     publish_owes d o pools callers k r n
-    (first_half (is_caller n) (not (holds_desk w n)) (first_half (is_caller n && not (holds_desk w n)) (is_some (pending_of w n s number)) l)) s number
-    (second (is_caller n && not (holds_desk w n)) (is_some (pending_of w n s number)) l)
+    (left_true (is_caller n) (not (holds_desk w n)) (left_true (is_caller n && not (holds_desk w n)) (is_some (pending_of w n s number)) l)) s number
+    (right_true (is_caller n && not (holds_desk w n)) (is_some (pending_of w n s number)) l)
 one d o pools callers (receives n mode) k r l =
     let w : World = of d o pools callers in
     receive_owes d o pools callers k r n
-    (first_half (is_caller n) (not (holds_desk w n)) (first_half (is_caller n && not (holds_desk w n)) (not (mode.peek && mode.drop_it)) l)) mode
+    (left_true (is_caller n) (not (holds_desk w n)) (left_true (is_caller n && not (holds_desk w n)) (not (mode.peek && mode.drop_it)) l)) mode
 one d o pools callers (reads n number sealed) k r l =
     let w : World = of d o pools callers in
-    read_owes d o pools callers k r n (first_half (is_caller n) (not (holds_desk w n)) l) number sealed
+    read_owes d o pools callers k r n (left_true (is_caller n) (not (holds_desk w n)) l) number sealed
 one d o pools callers (frees n number) k r l =
     let w : World = of d o pools callers in
-    free_owes d o pools callers k r n (first_half (is_caller n) (not (holds_desk w n)) l) number
+    free_owes d o pools callers k r n (left_true (is_caller n) (not (holds_desk w n)) l) number
 
-owed_on : (w : World) (es : List Event) → all_legal w es ≡ true → Kept w → OwesWell w → OwesWell (runs w es)
-unfolding all_legal runs
+owed_on : (w : World) (es : List Event) → all_legal w es ≡ true → Kept w → OwesWell w → OwesWell (world_after w es)
+unfolding all_legal world_after
 owed_on w [] l k r = r
 owed_on w (e ∷ es) l k r =
-    let first : legal w e ≡ true = first_half (legal w e) (all_legal (step w e) es) l in
-    owed_on (step w e) es (second (legal w e) (all_legal (step w e) es) l) (kept_on w (e ∷ []) (ap (λ b. b && true) first) k)
+    let first : legal w e ≡ true = left_true (legal w e) (all_legal (step w e) es) l in
+    owed_on (step w e) es (right_true (legal w e) (all_legal (step w e) es) l) (kept_on w (e ∷ []) (ap (λ b. b && true) first) k)
     (one w.desk w.holder w.pools w.callers e k r first)
 
 pub reached_owes : (w : World) → IsReached w → OwesWell w

@@ -8,25 +8,32 @@ use Rattle.std.proofs.lemmas.List.{length-set}
 use Rattle.kd_types.specs.declared.refusal.Refusal.{Refusal}
 use Rattle.kd_types.specs.declared.refusal.Refusal.TheVariants.{NoSuchBus}
 use Rattle.kd_wire.specs.declared.command.Command.{Command}
-use Rattle.kd_pool.specs.State.{Act, Answer, Hold, Visit, by_desk, close, done, drain, offer, post, settle, raise}
-use Rattle.kd_pool.specs.Steps.{after, answer, pool_step}
-use Rattle.kd_pool.specs.Lasting.{is_open, open_after}
-use Rattle.kd_desk.specs.declared.who.Who.{Who}
-use Rattle.kd_desk.specs.State.{Desk}
-use Rattle.kd_desk.specs.Plans.{Plan}
-use Rattle.kd_desk.specs.Seating.{IsElsewhere, IsKnown, IsNow, is_live, open_along, open_at}
-use Rattle.kd_desk.specs.Send.{Part}
-use Rattle.kd_desk.specs.Step.{Ended, ended, ended_by, first_ends, next_part, parts_in, plan}
-use Rattle.kd_world.specs.World.{Aimed, Caller, Event, Holder, World, act_of, callers_after, desk_after, holder_after, holder_by, aimed, caller_at, closed, desk_end, end_of, is_caller, is_fresh, leave, left_caller, names_other_bus, next_visit, parts_held, parts_planned, planned, pool_answer, pool_at, pools_after, step, stranger, take, visit}
-use Rattle.kd_world.proofs.Tied.{next_from, no_some, of, some_back}
+use Rattle.kd_acts.specs.State.{Act, Answer, Hold, Visit, by_desk, close, done, drain, offer, post, settle, raise}
+use Rattle.kd_acts.specs.Steps.{after, answer, pool_step}
+use Rattle.kd_acts.specs.Lasting.{is_open, open_after}
+use Rattle.kd_commands.specs.declared.who.Who.{Who}
+use Rattle.kd_commands.specs.State.{Desk}
+use Rattle.kd_commands.specs.Plans.{Part, Plan}
+use Rattle.kd_commands.specs.Visits.{first_ends, next_part}
+use Rattle.kd_commands.specs.Step.{Ended, ended, ended_by, parts_in, plan}
+use Rattle.kd_commands.specs.Seating.{IsElsewhere, IsKnown, IsNow, is_live, open_along, open_at}
+use Rattle.kd_world.specs.State.{Caller, Holder, World, caller_at, closed_pool, pool_at, stranger}
+use Rattle.kd_world.specs.Planner.{desk_end, is_fresh, names_other_bus, parts_planned, planned}
+use Rattle.kd_world.specs.Holding.{command_end, next_visit, parts_held}
+use Rattle.kd_world.specs.Legal.{Event, is_caller, leave, take, visit}
+use Rattle.kd_world.specs.Pools.{Aimed, act_of, aimed, pool_answer, pools_after}
+use Rattle.kd_world.specs.Callers.{callers_after, left_caller}
+use Rattle.kd_world.specs.Step.{desk_after, holder_after, holder_by, step}
+use Rattle.kd_model.proofs.Truth.{no_some, same_some}
+use Rattle.kd_world.proofs.Tied.{next_from, of}
 use Rattle.kd_world.proofs.Agreeing.{Agrees, Face, but_at, each, is_quiet, raised}
 use Rattle.kd_world.proofs.Acts.{acts_quietly, along_more, along_none, set_pool, with_faces, with_open, with_pools}
 use Rattle.kd_world.proofs.Moving.{face_after, itself_now, moved, nobody_at}
-use Rattle.kd_desk.proofs.Callers.{callers_move}
-use Rattle.kd_desk.proofs.Opens.{raises_free, opens_are_live, opens_stay}
-use Rattle.kd_desk.proofs.Others.{others_stay}
-use Rattle.kd_desk.proofs.Seating.{seating_stays}
-use Rattle.kd_pool.proofs.Lasting.{open_follows}
+use Rattle.kd_commands.proofs.Callers.{callers_move}
+use Rattle.kd_commands.proofs.Opens.{raises_free, opens_are_live, opens_stay}
+use Rattle.kd_commands.proofs.Others.{others_stay}
+use Rattle.kd_commands.proofs.Seating.{seating_stays}
+use Rattle.kd_acts.proofs.Lasting.{open_follows}
 
 abbrev pub face_of : Caller → Face
 face_of c = record { member = c.who.member; kind = c.kind; hand = c.hand }
@@ -35,7 +42,7 @@ abbrev pub faces_of : List Caller → ℕ → Face
 faces_of callers i = face_of (get_or callers i stranger)
 
 abbrev pub pools_of : List Hold → ℕ → Hold
-pools_of pools s = get_or pools s closed
+pools_of pools s = get_or pools s closed_pool
 
 -- the open pools are those of live connections, as the holder's visits left them
 abbrev pub open_now : World → ℕ → Bool
@@ -92,7 +99,7 @@ module _ (callers : List Caller) (i : ℕ) (c : Caller) (lt : i < length callers
 
 abbrev pub pools_by : Option Aimed → List Hold → List Hold
 pools_by None pools = pools
-pools_by (Some a) pools = set pools a.seat (after (get_or pools a.seat closed) a.act)
+pools_by (Some a) pools = set pools a.seat (after (get_or pools a.seat closed_pool) a.act)
 
 pub pools_are : (w : World) (e : Event) (o : Option Aimed) → act_of w e ≡ o → pools_after w e ≡ pools_by o w.pools
 unfolding pools_after
@@ -134,7 +141,7 @@ take_keeps d pools callers n x k c (Ok p) e =
           (λ s. sym (along_none s (parts_planned d w x) (is_live d s))) k.agrees;
       many_callers = k.many_callers;
       many_pools = k.many_pools;
-      held = λ g f. subst (Holding (of d (Some h) pools callers)) (some_back f) record { caller = c; who = refl; plan = p; planned = e };
+      held = λ g f. subst (Holding (of d (Some h) pools callers)) (same_some _ _ f) record { caller = c; who = refl; plan = p; planned = e };
     }
 
 -- ---- visits
@@ -241,14 +248,14 @@ module _ (d : Desk) (h : Holder) (pools : List Hold) (callers : List Caller) (k 
     agrees = subst (λ ps. Agrees d (pools_of ps) (faces_of callers) up') (sym (pools_are w (visit n s) (Some (aimed q)) (visit_act d h pools callers n s q next))) (by_any q.act refl);
     many_callers = k.many_callers;
     many_pools = as_many w (visit n s) k.many_pools;
-    held = λ g f. subst (Holding (of d (Some (record h { outs = h.outs ++ o ∷ [] })) (pools_after w (visit n s)) callers)) (some_back f)
+    held = λ g f. subst (Holding (of d (Some (record h { outs = h.outs ++ o ∷ [] })) (pools_after w (visit n s)) callers)) (same_some _ _ f)
         (let b = hold d h pools callers k in record { caller = b.caller; who = b.who; plan = b.plan; planned = b.planned });
   }
 
 -- ---- leaving the desk
 
 pub leave_is : (d : Desk) (h : Holder) (pools : List Hold) (callers : List Caller) (n : ℕ)
-    → of (end_of (of d (Some h) pools callers) h).next None pools
+    → of (command_end (of d (Some h) pools callers) h).next None pools
     (set callers (n - 1) (left_caller (of d (Some h) pools callers) h (caller_at (of d (Some h) pools callers) n)))
     ≡ step (of d (Some h) pools callers) (leave n)
 unfolding holder_after desk_after callers_after pools_after act_of
@@ -292,13 +299,13 @@ module _ (d : Desk) (h : Holder) (pools : List Hold) (callers : List Caller) (k 
       (λ s. opens_were s ∙ opens_are_live d f.kind h.who h.command p k.agrees.seated (knows d h pools callers k) (plans d h pools callers k) h.outs s e
       (ap (λ ps. next_part [] ps h.outs) (sym (parts_are d h pools callers k)) ∙ none_left lw h done (ap (λ ps. first_ends ps h.outs) (parts_are d h pools callers k) ∙ e)))
 
-  end_is : end_of lw h ≡ ended d h.who p (first_ends p.parts h.outs)
+  end_is : command_end lw h ≡ ended d h.who p (first_ends p.parts h.outs)
   unfolding desk_end
   end_is = ap (λ r. ended_by d h.who r h.outs) (hold d h pools callers k).planned
 
   pub leave_keeps : Kept (step lw (leave h.caller))
   leave_keeps =
-      let x : Ended = end_of lw h in
+      let x : Ended = command_end lw h in
       let c : Caller = left_caller lw h (caller_at lw h.caller) in
       let small : i < length callers = let many = k.many_callers in let low = caller_index h.caller (hold d h pools callers k).caller in omega (arith, many, low) in
       subst Kept (leave_is d h pools callers h.caller) record {

@@ -4,9 +4,10 @@ use Rattle.kd_types.specs.declared.refusal.Refusal.TheVariants as why
 use Rattle.kd_wire.specs.declared.item.WireItem.TheVariants as item
 use Rattle.kd_wire.specs.declared.command.Command.TheVariants as cmd
 use Rattle.kd_wire.specs.declared.reply.Reply.TheVariants as reply
-use Rattle.kd_pool.specs.State.{got, refused, done, slice, placed, gone}
-use Rattle.kd_desk.specs.Items.{any}
-use Rattle.kd_world.specs.World.{take, visit, leave, publishes, receives, taken, left, pool_says}
+use Rattle.kd_acts.specs.State.{got, refused, done, slice, placed, gone}
+use Rattle.kd_image.specs.Images.{any}
+use Rattle.kd_world.specs.Legal.{take, visit, leave, publishes, receives}
+use Rattle.kd_world.specs.Answers.{taken, left, pool_says}
 use Rattle.kd_world.proofs.Script.{does, events_say, events_legal, plain, hello_of, hello_as, message_to, send_to, send_name, acquire}
 
 -- a receive between an offer and its publish finds nothing yet

@@ -1,15 +1,16 @@
 -- The pendings that a holder's visits make.
 use Rattle.std.specs.Prelude.{◌≡◌, ℕ, true, List, [], ◌∷◌, ◌++◌, refl, Some}
-use Rattle.std.proofs.Common.{ap, inl, inr, sym, ◌∙◌}
+use Rattle.std.proofs.Common.{ap, inl, inr, sym, ◌∙◌, append-nil, append_assoc}
 use Rattle.std.proofs.lemmas.Bool.{false≢true}
-use Rattle.kd_pool.specs.State.{Answer, Image, Visit, by_desk, bytes_of, close, done, drain, drained, freed, gone, got, offer, placed, post, raise, refused, settle, slice}
-use Rattle.kd_pool.proofs.Reserved.{turns}
-use Rattle.kd_desk.specs.Send.{Part}
-use Rattle.kd_desk.specs.Step.{images_in, next_part, with_images}
-use Rattle.kd_desk.proofs.Asides.{next_aside}
-use Rattle.kd_desk.proofs.Laid.{AreLaidOut, aside_turns}
-use Rattle.kd_world.specs.World.{World, pending_made, pendings_made, pool_at}
-use Rattle.kd_world.proofs.Tied.{append_assoc, append_nil, some_back}
+use Rattle.kd_acts.specs.State.{Answer, Image, Visit, by_desk, bytes_of, close, done, drain, drained, freed, gone, got, offer, placed, post, raise, refused, settle, slice}
+use Rattle.kd_acts.proofs.Reserved.{turns}
+use Rattle.kd_commands.specs.Plans.{Part}
+use Rattle.kd_commands.specs.Visits.{images_in, next_part, with_images}
+use Rattle.kd_commands.proofs.Asides.{next_aside}
+use Rattle.kd_commands.proofs.Laid.{AreLaidOut, aside_turns}
+use Rattle.kd_world.specs.State.{World, pool_at}
+use Rattle.kd_world.specs.Callers.{pending_made, pendings_made}
+use Rattle.kd_model.proofs.Truth.{same_some}
 
 module _ (w : World) where
   pub turn_makes : (s : ℕ) (v : Visit) (o : Answer) → turns (by_desk v) ≡ true → pending_made w s v o ≡ []
@@ -48,8 +49,8 @@ module _ (w : World) where
   unfolding next_part
   made_more is [] outs o q e = absurd cc
   made_more is (p ∷ ps) [] o q e =
-      ap (λ xs. pending_made w p.seat p.act o ++ xs) (made_of_none ps) ∙ append_nil (pending_made w p.seat p.act o) ∙ met_makes is p.seat p.act o
-      ∙ ap (λ (x : Part). pending_made w x.seat x.act o) (some_back e)
+      ap (λ xs. pending_made w p.seat p.act o ++ xs) (made_of_none ps) ∙ append-nil (pending_made w p.seat p.act o) ∙ met_makes is p.seat p.act o
+      ∙ ap (λ (x : Part). pending_made w x.seat x.act o) (same_some _ _ e)
   made_more is (p ∷ ps) (x ∷ outs) o q e =
       ap (λ xs. pending_made w p.seat p.act x ++ xs) (made_more (is ++ images_in x) ps outs o q e)
       ∙ sym (append_assoc (pending_made w p.seat p.act x) (pendings_made w ps outs) (pending_made w q.seat q.act o))

@@ -4,8 +4,8 @@ use Rattle.kd_types.specs.declared.refusal.Refusal.TheVariants as why
 use Rattle.kd_wire.specs.declared.item.WireItem.TheVariants as item
 use Rattle.kd_wire.specs.declared.command.Command.TheVariants as cmd
 use Rattle.kd_wire.specs.declared.reply.Reply.TheVariants as reply
-use Rattle.kd_pool.specs.State.{got, refused, freed, bytes_of}
-use Rattle.kd_world.specs.World.{turned_away, left, pool_says}
+use Rattle.kd_acts.specs.State.{got, refused, freed, bytes_of}
+use Rattle.kd_world.specs.Answers.{turned_away, left, pool_says}
 use Rattle.kd_world.proofs.Script.{does, gets, looks, lets_go, script, plain, peeking, dropping, hi, hello_of, message_to, send_to}
 
 -- one connection sends to itself, receives and frees

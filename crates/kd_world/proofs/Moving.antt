@@ -7,25 +7,22 @@ use mathlib.Core.Logic.{dite}
 use native.Mathlib.Decide.{ℕ_discrete}
 use Rattle.kd_types.specs.declared.creds.Kind.{Kind}
 use Rattle.kd_model.specs.Words.{contains, first, some_of}
-use Rattle.kd_pool.specs.State.{Hold, Pool}
-use Rattle.kd_pool.specs.Lasting.{is_handed_in, is_open}
-use Rattle.kd_desk.specs.declared.conn.Conn.{Conn}
-use Rattle.kd_desk.specs.declared.who.WhoKind.{WhoKind}
-use Rattle.kd_desk.specs.declared.who.WhoKind.TheVariants as who
-use Rattle.kd_desk.specs.State.{Desk, conn_of, has_id, has_seat, is_holder}
-use Rattle.kd_desk.specs.Hello.{is_free}
-use Rattle.kd_desk.specs.Seating.{AreSeated, HasLeft, IsElsewhere, IsKnown, IsNow, IsPlaced, is_live}
-use Rattle.kd_world.specs.Agreed.{is_told_handed}
+use Rattle.kd_model.proofs.Truth.{not_true}
+use Rattle.kd_acts.specs.State.{Hold, Pool}
+use Rattle.kd_acts.specs.Lasting.{is_handed_in, is_open}
+use Rattle.kd_commands.specs.declared.conn.Conn.{Conn}
+use Rattle.kd_commands.specs.declared.who.WhoKind.{WhoKind}
+use Rattle.kd_commands.specs.declared.who.WhoKind.TheVariants as who
+use Rattle.kd_commands.specs.State.{Desk, conn_of, has_id, has_seat, is_holder}
+use Rattle.kd_commands.specs.Hello.{is_free}
+use Rattle.kd_commands.specs.Seating.{AreSeated, HasLeft, IsElsewhere, IsKnown, IsNow, IsPlaced, is_live}
 use Rattle.kd_world.specs.Hands.{empty_hand}
-use Rattle.kd_world.specs.World.{hand_after, kind_after}
+use Rattle.kd_world.specs.Callers.{hand_after, kind_after}
+use Rattle.kd_world.specs.Agreed.{is_told_handed}
 use Rattle.kd_world.proofs.Agreeing.{Agrees, Face, Sits, but_at, each, has, here, same_seat, there}
 
 abbrev pub face_after : Desk → Face → WhoKind → Face
 face_after e f b = record { member = b; kind = kind_after e b f.kind; hand = hand_after b f.hand }
-
-pub not_true : (b : Bool) → (b ≡ true → ⊥) → b ≡ false
-not_true true h = absurd (h refl)
-not_true false h = refl
 
 -- a list of one value alone has it everywhere
 pub alike : {X : Type 0} (m k : ℕ) (x : X) → get_or (replicate m x) k x ≡ x

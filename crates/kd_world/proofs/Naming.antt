@@ -4,8 +4,8 @@ use Rattle.kd_types.specs.declared.refusal.Refusal.TheVariants as why
 use Rattle.kd_wire.specs.declared.item.WireItem.TheVariants as item
 use Rattle.kd_wire.specs.declared.command.Command.TheVariants as cmd
 use Rattle.kd_wire.specs.declared.reply.Reply.TheVariants as reply
-use Rattle.kd_pool.specs.State.{got}
-use Rattle.kd_world.specs.World.{turned_away, left, pool_says}
+use Rattle.kd_acts.specs.State.{got}
+use Rattle.kd_world.specs.Answers.{turned_away, left, pool_says}
 use Rattle.kd_world.proofs.Script.{does, gets, script, plain, hello_of, hello_as, message_to, call_to, send_name, acquire}
 
 -- the owner that is replaced stands next, and the queue is listed behind the owner
@@ -31,7 +31,8 @@ refusals_of_names :
 unfolding script
 refusals_of_names = refl
 
--- a message to a name and an id finds another owner; a message that starts nothing finds an activator
+-- a message to a name and an id finds another owner; a message that starts nothing finds an
+-- activator
 a_name_that_moved :
     script (
     does 1 (hello_of 4096) ∷ does 2 (hello_of 4096) ∷ does 3 (hello_of 4096) ∷ does 1 (acquire 0 (codes "a.b")) ∷

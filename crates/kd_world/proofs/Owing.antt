@@ -1,4 +1,5 @@
--- What is owed: offers that were placed and aren't published. Each has its slice while its pool has the same generation, and no two are of one slice.
+-- What is owed: offers that were placed and aren't published. Each has its slice while its pool has
+-- the same generation, and no two are of one slice.
 use Rattle.std.specs.Prelude.{◌≡◌, ◌≢◌, ◌<◌, ◌≤◌, ◌+◌, ◌==◌, ◌&&◌, ℕ, Bool, true, false, cond, List, [], ◌∷◌, ◌++◌, length, get_or, set, refl, Some}
 use Rattle.std.specs.List.{AllByRecursion, count_by, find}
 use Rattle.std.proofs.Common.{ap, sym, subst, ◌∙◌, arith, eq-eqb, eqb-true}
@@ -7,17 +8,16 @@ use Rattle.std.proofs.lemmas.List.{get_or_past}
 use Rattle.std.proofs.lemmas.List.Sums.{sum_by-append, sum_by-cons}
 use mathlib.Core.Logic.{dite}
 use native.Mathlib.Decide.{dec_le}
-use Rattle.kd_model.proofs.Lists.{all_follow, all_of_append}
-use Rattle.kd_pool.specs.State.{Act, Content, Hold, by_desk, offer, publish, slice}
-use Rattle.kd_pool.specs.Steps.{after, answer, closed_answer, pool_step}
-use Rattle.kd_pool.specs.Lasting.{AreNumbered}
-use Rattle.kd_pool.proofs.Apart.{all_both}
-use Rattle.kd_pool.proofs.Reserved.{IsOwed, generation_stays, owed_begins, owed_stays, takes, turns}
-use Rattle.kd_world.specs.Pendings.{Pending}
-use Rattle.kd_world.specs.World.{closed, without_first}
+use Rattle.kd_model.proofs.Lists.{all_both, all_follow, all_of_append}
+use Rattle.kd_acts.specs.State.{Act, Content, Hold, by_desk, offer, publish, slice}
+use Rattle.kd_acts.specs.Steps.{after, answer, closed_answer, pool_step}
+use Rattle.kd_acts.specs.Lasting.{AreNumbered}
+use Rattle.kd_acts.proofs.Reserved.{IsOwed, generation_stays, owed_begins, owed_stays, takes, turns}
+use Rattle.kd_world.specs.State.{Pending, closed_pool}
+use Rattle.kd_world.specs.Callers.{without_first}
 use Rattle.kd_world.proofs.Agreeing.{but_at, each, here, there}
 use Rattle.kd_world.proofs.Acts.{set_nowhere, set_pool}
-use Rattle.kd_world.proofs.Moving.{not_true}
+use Rattle.kd_model.proofs.Truth.{not_true}
 
 -- of the same slice in the same generation
 abbrev pub is_like : Pending → Pending → Bool
@@ -117,19 +117,19 @@ first_less test p (x ∷ xs) zs e = go (test x) (first_less test p xs zs) e
 
 -- ---- an act at a pool of a list
 
-closed_places_none : (user len source number : ℕ) (must : Bool) (c : Content) → answer closed (by_desk (offer user len source must c)) ≡ slice number → ⊥
+closed_places_none : (user len source number : ℕ) (must : Bool) (c : Content) → answer closed_pool (by_desk (offer user len source must c)) ≡ slice number → ⊥
 unfolding pool_step closed_answer
 closed_places_none user len source number must c e = cc
 
-module _ (pools : List Hold) (numbered : (s : ℕ) → AreNumbered (get_or pools s closed).pool) (s : ℕ) (a : Act) where
+module _ (pools : List Hold) (numbered : (s : ℕ) → AreNumbered (get_or pools s closed_pool).pool) (s : ℕ) (a : Act) where
   abbrev pool : ℕ → Hold
-  pool = λ k. get_or pools k closed
+  pool = λ k. get_or pools k closed_pool
 
   abbrev now : Hold
   now = after (pool s) a
 
   abbrev pub pool' : ℕ → Hold
-  pool' = λ k. get_or (set pools s now) k closed
+  pool' = λ k. get_or (set pools s now) k closed_pool
 
   -- what it doesn't publish is due after it
   still_due : (e : Pending) → (e.seat ≡ s → takes e.generation e.number a ≡ false) → IsDue pool e → IsDue pool' e
@@ -203,7 +203,7 @@ module _ (pools : List Hold) (numbered : (s : ℕ) → AreNumbered (get_or pools
       low : s < length pools
       low = dite (dec_le (length pools) s)
           (λ le. absurd (closed_places_none user len source number must c
-          (ap (answer closed) (sym is) ∙ ap (λ h. answer h a) (sym (get_or_past pools s closed le)) ∙ placed)))
+          (ap (answer closed_pool) (sym is) ∙ ap (λ h. answer h a) (sym (get_or_past pools s closed_pool le)) ∙ placed)))
           (λ gt. omega (arith, gt))
 
       is_due : IsDue pool' new

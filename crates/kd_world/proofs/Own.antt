@@ -5,26 +5,31 @@ use Rattle.std.proofs.lemmas.Bool.{true≢false}
 use Rattle.std.proofs.lemmas.List.{get_or_past, length-set}
 use mathlib.Core.Logic.{dite}
 use native.Mathlib.Decide.{dec_le, ℕ_discrete}
-use Rattle.kd_pool.specs.declared.receive.RecvMode.{RecvMode}
-use Rattle.kd_pool.specs.State.{Act, Answer, Hold, bytes_of, done, drained, free, freed, gone, got, placed, publish, read, receive, refused, slice}
-use Rattle.kd_pool.specs.Steps.{after, answer}
-use Rattle.kd_pool.specs.Lasting.{handed_after, hands_over, is_handed_in, is_open, open_after}
-use Rattle.kd_desk.specs.declared.who.WhoKind.{WhoKind}
-use Rattle.kd_desk.specs.declared.who.WhoKind.TheVariants as who
-use Rattle.kd_desk.specs.State.{Desk, is_holder}
-use Rattle.kd_desk.specs.Seating.{IsPlaced, IsKnown}
+use Rattle.kd_acts.specs.declared.receive.RecvMode.{RecvMode}
+use Rattle.kd_acts.specs.State.{Act, Answer, Hold, bytes_of, done, drained, free, freed, gone, got, placed, publish, read, receive, refused, slice}
+use Rattle.kd_acts.specs.Steps.{after, answer}
+use Rattle.kd_acts.specs.Lasting.{handed_after, hands_over, is_handed_in, is_open, open_after}
+use Rattle.kd_commands.specs.declared.who.WhoKind.{WhoKind}
+use Rattle.kd_commands.specs.declared.who.WhoKind.TheVariants as who
+use Rattle.kd_commands.specs.State.{Desk, is_holder}
+use Rattle.kd_commands.specs.Seating.{IsPlaced, IsKnown}
 use Rattle.kd_world.specs.declared.told.Told.{Told}
 use Rattle.kd_world.specs.declared.told.Told.TheVariants.{Peeked, Handed}
-use Rattle.kd_world.specs.Agreed.{is_told_handed}
 use Rattle.kd_world.specs.Hands.{hand_freed, hand_received, told_by}
-use Rattle.kd_world.specs.Pendings.{Pending}
-use Rattle.kd_world.specs.World.{Caller, Event, Holder, World, act_at, act_of, caller_at, callers_after, desk_after, free_of, frees, has_published, holder_after, is_caller, pending_of, pool_answer, pools_after, publish_of, publishes, reads, receives, seat_of, step, told_of}
-use Rattle.kd_world.proofs.Tied.{no_some, of}
+use Rattle.kd_world.specs.State.{Pending, Caller, Holder, World, caller_at}
+use Rattle.kd_world.specs.Own.{pending_of, pool_seat, hand_entry}
+use Rattle.kd_world.specs.Legal.{Event, frees, is_caller, publishes, reads, receives}
+use Rattle.kd_world.specs.Pools.{act_at, act_of, free_of, pool_answer, pools_after, publish_of}
+use Rattle.kd_world.specs.Callers.{callers_after, has_published}
+use Rattle.kd_world.specs.Step.{desk_after, holder_after, step}
+use Rattle.kd_world.specs.Agreed.{is_told_handed}
+use Rattle.kd_model.proofs.Truth.{no_some, or_false}
+use Rattle.kd_world.proofs.Tied.{of}
 use Rattle.kd_world.proofs.Agreeing.{Agrees, Sits, but_at, is_quiet, told_if_handed, used}
 use Rattle.kd_world.proofs.Acts.{acts_quietly, set_pool, with_faces, with_pools}
 use Rattle.kd_world.proofs.Holders.{Kept, answer_is, as_many, caller_index, face_of, faces_of, no_answer, open_now, pools_are, pools_of, same_faces, same_whos, set_faces}
-use Rattle.kd_pool.proofs.Handed.{handed_follows, receives_waiting}
-use Rattle.kd_pool.proofs.Lasting.{open_follows}
+use Rattle.kd_acts.proofs.Handed.{handed_follows, receives_waiting}
+use Rattle.kd_acts.proofs.Lasting.{open_follows}
 
 -- ---- the seat of a caller
 
@@ -36,15 +41,15 @@ with_member c m = record c { who = record c.who { member = m } }
 abbrev SitsAt : Caller → ℕ → Type 0
 SitsAt c s = (x : Sits (face_of c)) × (x.seat ≡ s)
 
-seat_sits : (c : Caller) (s : ℕ) → seat_of c ≡ Some s → SitsAt c s
+seat_sits : (c : Caller) (s : ℕ) → pool_seat c ≡ Some s → SitsAt c s
 seat_sits c s e = go c.who.member refl
   where
     kinds : (b : Bool) (id t : ℕ) → is_holder c.kind ≡ b → c.who.member ≡ who.Conn id t → elim b [ true ↦ None | false ↦ Some t ] ≡ Some s → SitsAt c s
     kinds true id t k m f = absurd cc
     kinds false id t k m f = (record { id = id; seat = t; member = m; kind = k }, ap (λ (o : Option ℕ). elim o [ None ↦ t | Some x ↦ x ]) f)
 
-    turned : (m : WhoKind) → c.who.member ≡ m → seat_of (with_member c m) ≡ Some s
-    turned m is = subst (λ m. seat_of (with_member c m) ≡ Some s) is e
+    turned : (m : WhoKind) → c.who.member ≡ m → pool_seat (with_member c m) ≡ Some s
+    turned m is = subst (λ m. pool_seat (with_member c m) ≡ Some s) is e
 
     go : (m : WhoKind) → c.who.member ≡ m → SitsAt c s
     go who.Fresh is = absurd (no_some (turned who.Fresh is))
@@ -52,8 +57,8 @@ seat_sits c s e = go c.who.member refl
     go (who.Old x) is = absurd (no_some (turned (who.Old x) is))
     go (who.Conn id t) is = kinds (is_holder c.kind) id t refl is (turned (who.Conn id t) is)
 
-sits_seat : (c : Caller) (x : Sits (face_of c)) → seat_of c ≡ Some x.seat
-sits_seat c x = ap (λ m. seat_of (with_member c m)) x.member ∙ ap (λ b. elim b [ true ↦ None | false ↦ Some x.seat ]) x.kind
+sits_seat : (c : Caller) (x : Sits (face_of c)) → pool_seat c ≡ Some x.seat
+sits_seat c x = ap (λ m. pool_seat (with_member c m)) x.member ∙ ap (λ b. elim b [ true ↦ None | false ↦ Some x.seat ]) x.kind
 
 -- ---- hands
 
@@ -71,10 +76,6 @@ received_long mode (bytes_of bytes) hand = refl
 -- a hand after a number was told otherwise
 told_here : (hand : List (Option Told)) (m : ℕ) (t : Option Told) → m < length hand → get_or (set hand m t) m None ≡ t
 told_here hand m t lt = get_or-set_same hand m t None lt
-
-or_false : (b : Bool) → b ≡ (b || false)
-or_false true = refl
-or_false false = refl
 
 -- a receive tells the hand what it makes of the pool
 received_agrees : (mode : RecvMode) (a : Answer) (hand : List (Option Told)) (n : ℕ) (was : Bool) → length hand ≡ 256 → is_told_handed (get_or hand n None) ≡ was
@@ -131,7 +132,7 @@ read_is d o pools callers n number sealed = refl
 
 pub free_is : (d : Desk) (o : Option Holder) (pools : List Hold) (callers : List Caller) (n number : ℕ)
     → of d o (pools_after (of d o pools callers) (frees n number)) (set callers (n - 1)
-    (record (caller_at (of d o pools callers) n) { hand = hand_freed number (told_of (caller_at (of d o pools callers) n) number) (caller_at (of d o pools callers) n).hand }))
+    (record (caller_at (of d o pools callers) n) { hand = hand_freed number (hand_entry (caller_at (of d o pools callers) n) number) (caller_at (of d o pools callers) n).hand }))
     ≡ step (of d o pools callers) (frees n number)
 unfolding holder_after desk_after callers_after
 free_is d o pools callers n number = refl
@@ -140,17 +141,17 @@ pub publish_act : (w : World) (n s number : ℕ) (q : Option Pending) → pendin
 unfolding act_of
 publish_act w n s number q f = ap publish_of f
 
-pub receive_act : (w : World) (n : ℕ) (mode : RecvMode) (s : Option ℕ) → seat_of (caller_at w n) ≡ s → act_of w (receives n mode) ≡ act_at s (receive mode)
+pub receive_act : (w : World) (n : ℕ) (mode : RecvMode) (s : Option ℕ) → pool_seat (caller_at w n) ≡ s → act_of w (receives n mode) ≡ act_at s (receive mode)
 unfolding act_of
 receive_act w n mode s f = ap (λ t. act_at t (receive mode)) f
 
-pub read_act : (w : World) (n number : ℕ) (sealed : Bool) (s : Option ℕ) → seat_of (caller_at w n) ≡ s → act_of w (reads n number sealed) ≡ act_at s (read number sealed)
+pub read_act : (w : World) (n number : ℕ) (sealed : Bool) (s : Option ℕ) → pool_seat (caller_at w n) ≡ s → act_of w (reads n number sealed) ≡ act_at s (read number sealed)
 unfolding act_of
 read_act w n number sealed s f = ap (λ t. act_at t (read number sealed)) f
 
-pub free_act : (w : World) (n number : ℕ) (t : Option Told) → told_of (caller_at w n) number ≡ t → act_of w (frees n number) ≡ free_of (seat_of (caller_at w n)) number t
+pub free_act : (w : World) (n number : ℕ) (t : Option Told) → hand_entry (caller_at w n) number ≡ t → act_of w (frees n number) ≡ free_of (pool_seat (caller_at w n)) number t
 unfolding act_of
-free_act w n number t f = ap (free_of (seat_of (caller_at w n)) number) f
+free_act w n number t f = ap (free_of (pool_seat (caller_at w n)) number) f
 
 -- ---- what a caller does at its pool
 
@@ -226,7 +227,7 @@ module _ (d : Desk) (o : Option Holder) (pools : List Hold) (callers : List Call
           (sym (pools_are w e (publish_of (Some p)) (publish_act w n s number (Some p) f))) (as_many w e k.many_pools) refl refl)
 
   pub read_keeps : (number : ℕ) (sealed : Bool) → Kept (step w (reads n number sealed))
-  read_keeps number sealed = go (seat_of c) refl
+  read_keeps number sealed = go (pool_seat c) refl
     where
       e : Event
       e = reads n number sealed
@@ -239,13 +240,13 @@ module _ (d : Desk) (o : Option Holder) (pools : List Hold) (callers : List Call
         held = λ h f. let b = k.held h f in record { caller = b.caller; who = b.who; plan = b.plan; planned = b.planned };
       }
 
-      go : (s : Option ℕ) → seat_of c ≡ s → Kept (step w e)
+      go : (s : Option ℕ) → pool_seat c ≡ s → Kept (step w e)
       go None f = still (subst (λ ps. Agrees d (pools_of ps) (faces_of callers) (open_now w)) (sym (pools_are w e None (read_act w n number sealed None f))) k.agrees)
       go (Some s) f = still (subst (λ ps. Agrees d (pools_of ps) (faces_of callers) (open_now w)) (sym (pools_are w e (act_at (Some s) (read number sealed)) (read_act w n number sealed (Some s) f)))
           (acts_quietly d pools (faces_of callers) (open_now w) k.agrees s (read number sealed) refl (open_now w) refl (λ _ _. refl)))
 
   pub receive_keeps : (mode : RecvMode) → Kept (step w (receives n mode))
-  receive_keeps mode = go (seat_of c) refl
+  receive_keeps mode = go (pool_seat c) refl
     where
       e : Event
       e = receives n mode
@@ -253,7 +254,7 @@ module _ (d : Desk) (o : Option Holder) (pools : List Hold) (callers : List Call
       new : Answer → Caller
       new a = record c { hand = hand_received mode a c.hand }
 
-      go : (s : Option ℕ) → seat_of c ≡ s → Kept (step w e)
+      go : (s : Option ℕ) → pool_seat c ≡ s → Kept (step w e)
       go None f = subst Kept (receive_is d o pools callers n mode)
           (subst (λ a. Kept (next_to (pools_after w e) (record c { hand = hand_received mode a c.hand }))) (sym (no_answer w e (receive_act w n mode None f)))
           (nothing_next (pools_after w e) (record c { hand = c.hand }) (sym (pools_are w e None (receive_act w n mode None f))) refl refl))
@@ -271,17 +272,17 @@ module _ (d : Desk) (o : Option Holder) (pools : List Hold) (callers : List Call
           (sym (pools_are w e (act_at (Some t) (receive mode)) at)) (as_many w e k.many_pools)))
 
   pub free_keeps : (number : ℕ) → Kept (step w (frees n number))
-  free_keeps number = go (told_of c number) refl
+  free_keeps number = go (hand_entry c number) refl
     where
       e : Event
       e = frees n number
 
-      same : (t : Option Told) → told_of c number ≡ t → hand_freed number t c.hand ≡ c.hand → free_of (seat_of c) number t ≡ None → Kept (step w e)
+      same : (t : Option Told) → hand_entry c number ≡ t → hand_freed number t c.hand ≡ c.hand → free_of (pool_seat c) number t ≡ None → Kept (step w e)
       same t f hand none = subst Kept (free_is d o pools callers n number)
           (subst (λ h. Kept (next_to (pools_after w e) (record c { hand = h }))) (sym (ap (λ t. hand_freed number t c.hand) f ∙ hand))
           (nothing_next (pools_after w e) (record c { hand = c.hand }) (sym (pools_are w e None (free_act w n number t f ∙ none))) refl refl))
 
-      go : (t : Option Told) → told_of c number ≡ t → Kept (step w e)
+      go : (t : Option Told) → hand_entry c number ≡ t → Kept (step w e)
       go None f = same None f refl refl
       go (Some Peeked) f = same (Some Peeked) f refl refl
       go (Some Handed) f =

@@ -1,23 +1,26 @@
 -- What is owed while callers take the desk, visit pools and leave it.
 use Rattle.std.specs.Prelude.{◌≡◌, ◌≢◌, ◌⊎◌, ◌<◌, ◌-◌, ◌==◌, ℕ, Bool, true, false, List, [], ◌∷◌, ◌++◌, length, get_or, replicate, set, refl, Option, Some, None, Result, Ok, Err}
-use Rattle.std.proofs.Common.{ap, sym, subst, ◌∙◌, arith, inl, inr, ⊎_elim, eq-eqb, ne_eqb, get_or-set_other, get_or-set_same}
+use Rattle.std.proofs.Common.{ap, sym, subst, ◌∙◌, arith, inl, inr, ⊎_elim, eq-eqb, ne_eqb, get_or-set_other, get_or-set_same, append-nil, append_assoc}
 use Rattle.std.proofs.lemmas.Bool.{true≢false}
 use mathlib.Core.Logic.{dite}
 use native.Mathlib.Decide.{ℕ_discrete}
 use Rattle.kd_types.specs.declared.refusal.Refusal.{Refusal}
 use Rattle.kd_wire.specs.declared.command.Command.{Command}
-use Rattle.kd_pool.specs.State.{Act, Answer, Content, Hold, Visit, by_desk, bytes_of, close, done, drain, drained, freed, gone, got, offer, placed, post, raise, refused, settle, slice}
-use Rattle.kd_pool.specs.Steps.{after, answer}
-use Rattle.kd_pool.proofs.Reserved.{turns}
-use Rattle.kd_desk.specs.declared.who.Who.{Who}
-use Rattle.kd_desk.specs.State.{Desk}
-use Rattle.kd_desk.specs.Plans.{Plan}
-use Rattle.kd_desk.specs.Send.{Part}
-use Rattle.kd_desk.proofs.Asides.{IsAside}
-use Rattle.kd_desk.proofs.Laid.{AreLaidOut, laid_next, plan_laid}
-use Rattle.kd_world.specs.Pendings.{Pending}
-use Rattle.kd_world.specs.World.{Caller, Holder, World, aimed, caller_at, closed, end_of, holder_by, leave, left_caller, new_world, next_visit, parts_held, pending_made, pendings_made, pool_answer, step, stranger, visit}
-use Rattle.kd_world.proofs.Tied.{append_assoc, append_nil, next_from, of}
+use Rattle.kd_acts.specs.State.{Act, Answer, Content, Hold, Visit, by_desk, bytes_of, close, done, drain, drained, freed, gone, got, offer, placed, post, raise, refused, settle, slice}
+use Rattle.kd_acts.specs.Steps.{after, answer}
+use Rattle.kd_acts.proofs.Reserved.{turns}
+use Rattle.kd_commands.specs.declared.who.Who.{Who}
+use Rattle.kd_commands.specs.State.{Desk}
+use Rattle.kd_commands.specs.Plans.{Plan, Part}
+use Rattle.kd_commands.proofs.Asides.{IsAside}
+use Rattle.kd_commands.proofs.Laid.{AreLaidOut, laid_next, plan_laid}
+use Rattle.kd_world.specs.State.{Pending, Caller, Holder, World, caller_at, closed_pool, new_world, stranger}
+use Rattle.kd_world.specs.Holding.{command_end, next_visit, parts_held}
+use Rattle.kd_world.specs.Legal.{leave, visit}
+use Rattle.kd_world.specs.Pools.{aimed, pool_answer}
+use Rattle.kd_world.specs.Callers.{left_caller, pending_made, pendings_made}
+use Rattle.kd_world.specs.Step.{holder_by, step}
+use Rattle.kd_world.proofs.Tied.{next_from, of}
 use Rattle.kd_world.proofs.Agreeing.{but_at, each}
 use Rattle.kd_world.proofs.Holders.{Kept, answer_is, caller_index, hold, its, knows, leave_is, parts_are, plans, pools_are, pools_of, visit_act, visit_is}
 use Rattle.kd_world.proofs.Moving.{alike}
@@ -48,7 +51,7 @@ made_else w h j ne =
 pub opening_owes : (creator size hashes : ℕ) → OwesWell (new_world creator size hashes)
 unfolding new_world
 opening_owes creator size hashes =
-    with_owing (pools_of (replicate 64 closed)) (λ _. []) (owing_of (new_world creator size hashes))
+    with_owing (pools_of (replicate 64 closed_pool)) (λ _. []) (owing_of (new_world creator size hashes))
     (λ i. ap (λ (c : Caller). c.pendings ++ []) (sym (alike 64 i stranger)))
     record { due = λ i. tt; once = λ e i j ne. omega arith }
 
@@ -112,7 +115,7 @@ module _ (d : Desk) (h : Holder) (pools : List Hold) (callers : List Caller) (k 
   o = pool_answer w (visit n s)
 
   abbrev pools' : List Hold
-  pools' = set pools q.seat (after (get_or pools q.seat closed) act)
+  pools' = set pools q.seat (after (get_or pools q.seat closed_pool) act)
 
   abbrev h' : Holder
   h' = record h { outs = h.outs ++ o ∷ [] }
@@ -125,7 +128,7 @@ module _ (d : Desk) (h : Holder) (pools : List Hold) (callers : List Caller) (k 
       subst AreLaidOut (sym (parts_are d h pools callers k))
       (plan_laid d (its d h pools callers k).kind h.who h.command (hold d h pools callers k).plan (knows d h pools callers k) (plans d h pools callers k))
 
-  said_is : o ≡ answer (get_or pools q.seat closed) act
+  said_is : o ≡ answer (get_or pools q.seat closed_pool) act
   said_is = answer_is w (visit n s) (aimed q) (visit_act d h pools callers n s q next)
 
   -- nothing new is owed
@@ -138,10 +141,10 @@ module _ (d : Desk) (h : Holder) (pools : List Hold) (callers : List Caller) (k 
 
   one_more : (x : Places q.act o) → x.len ≡ length x.content.image
       → pendings_made w' ps (h.outs ++ o ∷ [])
-      ≡ pendings_made w ps h.outs ++ record { seat = q.seat; generation = (get_or pools q.seat closed).generation; number = x.number; content = x.content } ∷ []
+      ≡ pendings_made w ps h.outs ++ record { seat = q.seat; generation = (get_or pools q.seat closed_pool).generation; number = x.number; content = x.content } ∷ []
       → OwesWell w'
   one_more x fits same =
-      let e : Pending = record { seat = q.seat; generation = (get_or pools q.seat closed).generation; number = x.number; content = x.content } in
+      let e : Pending = record { seat = q.seat; generation = (get_or pools q.seat closed_pool).generation; number = x.number; content = x.content } in
       let front : ℕ → List Pending = λ j. (get_or callers j stranger).pendings in
       with_owing (pools_of pools') (but_at (owing_of w) i (owing_of w i ++ e ∷ [])) (owing_of w')
       (each (λ j xs. xs ≡ owing_of w' j) (owing_of w) i (owing_of w i ++ e ∷ [])
@@ -158,7 +161,7 @@ module _ (d : Desk) (h : Holder) (pools : List Hold) (callers : List Caller) (k 
       made_alike w w' (same_generations pools k.agrees.numbered q.seat act still) ps (h.outs ++ o ∷ []) ∙ made_more w [] ps h.outs o q (next_from w h q next) in
       ⊎_elim
       (λ (none : pending_made w q.seat q.act o ≡ []).
-      nothing_more (all ∙ ap (λ xs. pendings_made w ps h.outs ++ xs) none ∙ append_nil (pendings_made w ps h.outs)))
+      nothing_more (all ∙ ap (λ xs. pendings_made w ps h.outs ++ xs) none ∙ append-nil (pendings_made w ps h.outs)))
       (λ (x : Places q.act o). one_more x (subst IsAside x.offered aside)
       (all ∙ ap (λ (t : Visit × Answer). pendings_made w ps h.outs ++ pending_made w q.seat t.0 t.1) (λ j. (x.offered j, x.answered j))))
       (makes w q.seat q.act o)
@@ -202,7 +205,7 @@ leave_owes d h pools callers k r =
     let many = k.many_callers in
     let front : ℕ → List Pending = λ j. (get_or callers j stranger).pendings in
     subst OwesWell (leave_is d h pools callers h.caller)
-    (with_owing (pools_of pools) (owing_of w) (owing_of (of (end_of w h).next None pools (set callers i c)))
-    (λ j. sym (append_nil (get_or (set callers i c) j stranger).pendings ∙ set_pendings callers i c (omega (arith, low, many)) j
+    (with_owing (pools_of pools) (owing_of w) (owing_of (of (command_end w h).next None pools (set callers i c)))
+    (λ j. sym (append-nil (get_or (set callers i c) j stranger).pendings ∙ set_pendings callers i c (omega (arith, low, many)) j
     ∙ each (λ j xs. xs ≡ owing_of w j) front i c.pendings (ap (λ xs. front i ++ xs) (sym (made_here w h)))
-    (λ j ne. sym (append_nil (front j)) ∙ ap (λ xs. front j ++ xs) (sym (made_else w h j ne))) j)) r)
+    (λ j ne. sym (append-nil (front j)) ∙ ap (λ xs. front j ++ xs) (sym (made_else w h j ne))) j)) r)

@@ -4,8 +4,8 @@ use Rattle.kd_types.specs.declared.refusal.Refusal.TheVariants as why
 use Rattle.kd_wire.specs.declared.item.WireItem.TheVariants as item
 use Rattle.kd_wire.specs.declared.command.Command.TheVariants as cmd
 use Rattle.kd_wire.specs.declared.reply.Reply.TheVariants as reply
-use Rattle.kd_pool.specs.State.{got, refused}
-use Rattle.kd_world.specs.World.{turned_away, left, pool_says}
+use Rattle.kd_acts.specs.State.{got, refused}
+use Rattle.kd_world.specs.Answers.{turned_away, left, pool_says}
 use Rattle.kd_world.proofs.Script.{does, gets, script, plain, hello_of, hello_as, send_to, send_name, acquire, enter}
 
 -- a policy for one element more lets a stranger talk to just such names
@@ -58,7 +58,8 @@ a_blocked_seat_waits_for_its_caller :
 unfolding script
 a_blocked_seat_waits_for_its_caller = refl
 
--- a policy holder's list may have wildcards and an endpoint's may not; the default endpoint has its label already
+-- a policy holder's list may have wildcards and an endpoint's may not; the default endpoint has its
+-- label already
 wildcards_are_for_the_bus :
     script (
     does 1 (hello_as 4 0 []) ∷ does 1 (cmd.PolicySet (item.Name (codes "a.*") ∷ item.Access 3 2 0 ∷ [])) ∷

@@ -4,14 +4,21 @@ use Rattle.std.specs.List.{IsDistinct}
 use Rattle.std.proofs.Common.{ap, sym, subst, ◌∙◌, eqb-true}
 use Rattle.std.proofs.lemmas.Bool.{true≢false}
 use Rattle.kd_wire.specs.WellFormed.{is_well_formed}
-use Rattle.kd_pool.specs.State.{Hold}
-use Rattle.kd_desk.specs.declared.who.WhoKind.TheVariants as who
-use Rattle.kd_desk.specs.State.{Desk, opening}
-use Rattle.kd_desk.specs.Seating.{is_live}
-use Rattle.kd_desk.specs.Send.{Part}
-use Rattle.kd_world.specs.Agreed.{HandsAlwaysAgree, IsReached}
-use Rattle.kd_world.specs.World.{Caller, Event, Holder, World, all_legal, closed, frees, holds_desk, is_caller, is_for_desk, is_part_at, leave, legal, new_world, next_visit, pending_of, planned, caller_at, publishes, reads, receives, runs, step, stranger, take, visit}
-use Rattle.kd_world.proofs.Tied.{first_half, no_some, of, second}
+use Rattle.kd_acts.specs.State.{Hold}
+use Rattle.kd_commands.specs.declared.who.WhoKind.TheVariants as who
+use Rattle.kd_commands.specs.State.{Desk, opening_desk}
+use Rattle.kd_commands.specs.Plans.{Part}
+use Rattle.kd_commands.specs.Seating.{is_live}
+use Rattle.kd_world.specs.State.{Caller, Holder, World, closed_pool, new_world, caller_at, stranger}
+use Rattle.kd_world.specs.Planner.{planned}
+use Rattle.kd_world.specs.Holding.{holds_desk, next_visit}
+use Rattle.kd_world.specs.Own.{pending_of}
+use Rattle.kd_world.specs.Legal.{Event, frees, is_caller, is_for_desk, is_part_at, leave, legal, publishes, reads, receives, take, visit}
+use Rattle.kd_world.specs.Step.{step}
+use Rattle.kd_world.specs.Runs.{all_legal, world_after, IsReached}
+use Rattle.kd_world.specs.Agreed.{HandsAlwaysAgree}
+use Rattle.kd_model.proofs.Truth.{left_true, no_some, right_true}
+use Rattle.kd_world.proofs.Tied.{of}
 use Rattle.kd_world.proofs.Agreeing.{Agrees}
 use Rattle.kd_world.proofs.Acts.{with_faces, with_pools}
 use Rattle.kd_world.proofs.Moving.{alike, nothing_told}
@@ -20,8 +27,8 @@ use Rattle.kd_world.proofs.Own.{free_keeps, publish_keeps, read_keeps, receive_k
 
 -- ---- the opening
 
-opening_agrees : (creator size hashes : ℕ) → Agrees (opening creator size hashes) (λ _. closed) (λ _. face_of stranger) (is_live (opening creator size hashes))
-unfolding opening IsDistinct
+opening_agrees : (creator size hashes : ℕ) → Agrees (opening_desk creator size hashes) (λ _. closed_pool) (λ _. face_of stranger) (is_live (opening_desk creator size hashes))
+unfolding opening_desk IsDistinct
 opening_agrees creator size hashes = record {
   seated = record { old_ids = tt; own_ids = tt; few_seats = tt; own_seats = tt; unblocked = tt };
   numbered = λ _. tt;
@@ -37,9 +44,9 @@ opening_agrees creator size hashes = record {
 pub opening_keeps : (creator size hashes : ℕ) → Kept (new_world creator size hashes)
 unfolding new_world
 opening_keeps creator size hashes = record {
-  agrees = with_pools (opening creator size hashes) (λ _. closed) (pools_of (replicate 64 closed)) (faces_of (replicate 64 stranger)) (is_live (opening creator size hashes))
-      (λ k. sym (alike 64 k closed))
-      (with_faces (opening creator size hashes) (λ _. closed) (λ _. face_of stranger) (faces_of (replicate 64 stranger)) (is_live (opening creator size hashes))
+  agrees = with_pools (opening_desk creator size hashes) (λ _. closed_pool) (pools_of (replicate 64 closed_pool)) (faces_of (replicate 64 stranger)) (is_live (opening_desk creator size hashes))
+      (λ k. sym (alike 64 k closed_pool))
+      (with_faces (opening_desk creator size hashes) (λ _. closed_pool) (λ _. face_of stranger) (faces_of (replicate 64 stranger)) (is_live (opening_desk creator size hashes))
       (λ i. sym (ap face_of (alike 64 i stranger))) (opening_agrees creator size hashes));
   many_callers = refl;
   many_pools = refl;
@@ -53,24 +60,24 @@ one : (d : Desk) (o : Option Holder) (pools : List Hold) (callers : List Caller)
 unfolding legal
 one d None pools callers (take n x) k l =
     let who = (caller_at (of d None pools callers) n).who in
-    let fits = first_half (is_caller n && true && is_for_desk x) (is_well_formed x) l in
-    let named = first_half (is_caller n) true (first_half (is_caller n && true) (is_for_desk x) fits) in
+    let fits = left_true (is_caller n && true && is_for_desk x) (is_well_formed x) l in
+    let named = left_true (is_caller n) true (left_true (is_caller n && true) (is_for_desk x) fits) in
     subst Kept (take_is d pools callers n x) (take_keeps d pools callers n x k named (planned d who x) refl)
 one d (Some h) pools callers (take n x) k l =
-    absurd (true≢false (sym (second (is_caller n) false (first_half (is_caller n && false) (is_for_desk x) (first_half (is_caller n && false && is_for_desk x) (is_well_formed x) l)))))
-one d None pools callers (visit n s) k l = absurd (true≢false (sym (second (is_caller n) false l)))
+    absurd (true≢false (sym (right_true (is_caller n) false (left_true (is_caller n && false) (is_for_desk x) (left_true (is_caller n && false && is_for_desk x) (is_well_formed x) l)))))
+one d None pools callers (visit n s) k l = absurd (true≢false (sym (right_true (is_caller n) false l)))
 one d (Some h) pools callers (visit n s) k l =
     go (next_visit (of d (Some h) pools callers) h) refl
-    (second (h.caller == n) (is_part_at s (next_visit (of d (Some h) pools callers) h)) (second (is_caller n) (h.caller == n && is_part_at s (next_visit (of d (Some h) pools callers) h)) l))
+    (right_true (h.caller == n) (is_part_at s (next_visit (of d (Some h) pools callers) h)) (right_true (is_caller n) (h.caller == n && is_part_at s (next_visit (of d (Some h) pools callers) h)) l))
   where
     go : (q : Option Part) → next_visit (of d (Some h) pools callers) h ≡ q → is_part_at s q ≡ true → Kept (step (of d (Some h) pools callers) (visit n s))
     go None e t = absurd (true≢false (sym t))
     go (Some q) e t = visit_keeps d h pools callers k n s q e
-one d None pools callers (leave n) k l = absurd (true≢false (sym (second (is_caller n) false l)))
+one d None pools callers (leave n) k l = absurd (true≢false (sym (right_true (is_caller n) false l)))
 one d (Some h) pools callers (leave n) k l =
-    let both = second (is_caller n) (h.caller == n && is_none (next_visit (of d (Some h) pools callers) h)) l in
-    go (next_visit (of d (Some h) pools callers) h) refl (eqb-true h.caller n (first_half (h.caller == n) (is_none (next_visit (of d (Some h) pools callers) h)) both))
-    (second (h.caller == n) (is_none (next_visit (of d (Some h) pools callers) h)) both)
+    let both = right_true (is_caller n) (h.caller == n && is_none (next_visit (of d (Some h) pools callers) h)) l in
+    go (next_visit (of d (Some h) pools callers) h) refl (eqb-true h.caller n (left_true (h.caller == n) (is_none (next_visit (of d (Some h) pools callers) h)) both))
+    (right_true (h.caller == n) (is_none (next_visit (of d (Some h) pools callers) h)) both)
   where
     go : (q : Option Part) → next_visit (of d (Some h) pools callers) h ≡ q → h.caller ≡ n → is_none q ≡ true → Kept (step (of d (Some h) pools callers) (leave n))
     go (Some q) e z t = absurd (true≢false (sym t))
@@ -79,24 +86,24 @@ one d (Some h) pools callers (leave n) k l =
 one d o pools callers (publishes n s number) k l =
     let w : World = of d o pools callers in
     publish_keeps d o pools callers k n
-    (first_half (is_caller n) (not (holds_desk w n)) (first_half (is_caller n && not (holds_desk w n)) (is_some (pending_of w n s number)) l)) s number
-    (second (is_caller n && not (holds_desk w n)) (is_some (pending_of w n s number)) l)
+    (left_true (is_caller n) (not (holds_desk w n)) (left_true (is_caller n && not (holds_desk w n)) (is_some (pending_of w n s number)) l)) s number
+    (right_true (is_caller n && not (holds_desk w n)) (is_some (pending_of w n s number)) l)
 one d o pools callers (receives n mode) k l =
     let w : World = of d o pools callers in
     receive_keeps d o pools callers k n
-    (first_half (is_caller n) (not (holds_desk w n)) (first_half (is_caller n && not (holds_desk w n)) (not (mode.peek && mode.drop_it)) l)) mode
+    (left_true (is_caller n) (not (holds_desk w n)) (left_true (is_caller n && not (holds_desk w n)) (not (mode.peek && mode.drop_it)) l)) mode
 one d o pools callers (reads n number sealed) k l =
     let w : World = of d o pools callers in
-    read_keeps d o pools callers k n (first_half (is_caller n) (not (holds_desk w n)) l) number sealed
+    read_keeps d o pools callers k n (left_true (is_caller n) (not (holds_desk w n)) l) number sealed
 one d o pools callers (frees n number) k l =
     let w : World = of d o pools callers in
-    free_keeps d o pools callers k n (first_half (is_caller n) (not (holds_desk w n)) l) number
+    free_keeps d o pools callers k n (left_true (is_caller n) (not (holds_desk w n)) l) number
 
-pub kept_on : (w : World) (es : List Event) → all_legal w es ≡ true → Kept w → Kept (runs w es)
-unfolding all_legal runs
+pub kept_on : (w : World) (es : List Event) → all_legal w es ≡ true → Kept w → Kept (world_after w es)
+unfolding all_legal world_after
 kept_on w [] l k = k
 kept_on w (e ∷ es) l k =
-    kept_on (step w e) es (second (legal w e) (all_legal (step w e) es) l) (one w.desk w.holder w.pools w.callers e k (first_half (legal w e) (all_legal (step w e) es) l))
+    kept_on (step w e) es (right_true (legal w e) (all_legal (step w e) es) l) (one w.desk w.holder w.pools w.callers e k (left_true (legal w e) (all_legal (step w e) es) l))
 
 pub reached_keeps : (w : World) → IsReached w → Kept w
 reached_keeps w r = subst Kept r.world (kept_on (new_world r.creator r.size r.hashes) r.events r.legal (opening_keeps r.creator r.size r.hashes))
@@ -106,17 +113,17 @@ hands_always_agree w r n id seat number is m up = (reached_keeps w r).agrees.agr
 
 -- ---- further on
 
-runs_more : (w : World) (es : List Event) (e : Event) → runs w (es ++ e ∷ []) ≡ step (runs w es) e
-unfolding runs
+runs_more : (w : World) (es : List Event) (e : Event) → world_after w (es ++ e ∷ []) ≡ step (world_after w es) e
+unfolding world_after
 runs_more w [] e = refl
 runs_more w (x ∷ es) e = runs_more (step w x) es e
 
-legal_more : (w : World) (es : List Event) (e : Event) → all_legal w es ≡ true → legal (runs w es) e ≡ true → all_legal w (es ++ e ∷ []) ≡ true
-unfolding all_legal runs
+legal_more : (w : World) (es : List Event) (e : Event) → all_legal w es ≡ true → legal (world_after w es) e ≡ true → all_legal w (es ++ e ∷ []) ≡ true
+unfolding all_legal world_after
 legal_more w [] e l m = ap (λ b. b && true) m
 legal_more w (x ∷ es) e l m =
-    ap (λ b. b && all_legal (step w x) (es ++ e ∷ [])) (first_half (legal w x) (all_legal (step w x) es) l)
-    ∙ legal_more (step w x) es e (second (legal w x) (all_legal (step w x) es) l) m
+    ap (λ b. b && all_legal (step w x) (es ++ e ∷ [])) (left_true (legal w x) (all_legal (step w x) es) l)
+    ∙ legal_more (step w x) es e (right_true (legal w x) (all_legal (step w x) es) l) m
 
 -- a legal event leads on
 pub reached_on : (w : World) (e : Event) → legal w e ≡ true → IsReached w → IsReached (step w e)
@@ -131,5 +138,5 @@ reached_on w e l r =
     }
 
 pub reached_at_first : (creator size hashes : ℕ) → IsReached (new_world creator size hashes)
-unfolding all_legal runs
+unfolding all_legal world_after
 reached_at_first creator size hashes = record { creator = creator; size = size; hashes = hashes; events = []; legal = refl; world = refl }

@@ -3,8 +3,8 @@ use Rattle.std.specs.Prelude.{◌≡◌, false, [], ◌∷◌, ◌++◌, replica
 use Rattle.kd_types.specs.declared.refusal.Refusal.TheVariants as why
 use Rattle.kd_wire.specs.declared.command.Command.TheVariants as cmd
 use Rattle.kd_wire.specs.declared.reply.Reply.TheVariants as reply
-use Rattle.kd_pool.specs.State.{got, refused, bytes_of}
-use Rattle.kd_world.specs.World.{turned_away, left, pool_says}
+use Rattle.kd_acts.specs.State.{got, refused, bytes_of}
+use Rattle.kd_world.specs.Answers.{turned_away, left, pool_says}
 use Rattle.kd_world.proofs.Script.{does, gets, looks, script, plain, hi, hello_of, hello_as, call_to, send_to, enter}
 
 -- a request that ran out is told, and its replier may not talk any more

@@ -1,7 +1,7 @@
 -- What a caller was told of the slice numbers of its pool.
 use Rattle.std.specs.Prelude.{ℕ, true, false, List, replicate, set, Option, Some, None}
-use Rattle.kd_pool.specs.declared.receive.RecvMode.{RecvMode}
-use Rattle.kd_pool.specs.State.{Answer, got}
+use Rattle.kd_acts.specs.declared.receive.RecvMode.{RecvMode}
+use Rattle.kd_acts.specs.State.{Answer, got}
 use Rattle.kd_world.specs.declared.told.Told.{Told}
 use Rattle.kd_world.specs.declared.told.Told.TheVariants.{Peeked, Handed}
 
@@ -15,7 +15,11 @@ with_told n t hand = set hand n t
 
 -- a received number comes into the hand, a dropped one doesn't
 abbrev pub told_by : RecvMode → Option Told
-told_by mode = elim mode.drop_it [ true ↦ None | false ↦ Some (elim mode.peek [ true ↦ Peeked | false ↦ Handed ]) ]
+told_by mode =
+    elim mode.drop_it [
+      | true ↦ None
+      | false ↦ Some (elim mode.peek [ true ↦ Peeked | false ↦ Handed ])
+    ]
 
 abbrev pub hand_received : RecvMode → Answer → List (Option Told) → List (Option Told)
 hand_received mode (got n offset len dropped) hand = with_told n (told_by mode) hand

@@ -1,6 +1,7 @@
 //! The program `kdbusd`: a message bus in user space after kdbus.
 //!
-//! `kdbusd replay` reads recorded command frames from the standard input and writes the replies to the standard output.
+//! `kdbusd replay` reads recorded command frames from the standard input and writes the replies to
+//! the standard output.
 #![tactic(auto)]
 
 mod run;

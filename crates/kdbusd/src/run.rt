@@ -3,7 +3,7 @@
 ghost use Rattle.std.specs.Prelude.{◌≡◌, ◌↔◌};
 ghost use Rattle.kd_outside.specs.Causes.{Rose};
 ghost use Rattle.kdbusd.specs.Words.{AreReplay};
-ghost use Rattle.kdbusd.specs.Ends.{IsRun};
+ghost use Rattle.kdbusd.specs.Ends.{IsEnd};
 
 use crate::words::is_replay;
 use kd_outside::{InputError, Sink, Source, read_to_end};
@@ -16,15 +16,17 @@ const MOST_INPUT: usize = 16_777_216;
 
 /// The run of `replay`: reads the source to its end, and answers its frames, each with one reply.
 ///
-/// The words are those that follow the program's name. Each end says in [`Status`] why it came; the clauses say when it can.
+/// The words are those that follow the program's name. Each end says in [`Status`] why it came; the
+/// clauses say when it can.
 pub fn replay_run<S: Source, K: Sink>(
     alloc: Global,
     words: &[&str],
     source: &mut S,
     sink: &mut K,
 ) -> Status
-    // What was read and written, by the end: at `Done` the model's replies to the frames that were read.
-    ensures run { IsRun (S.left source.old) (S.left source.new) (K.held sink.old) (K.held sink.new) result }
+    // What was read and written, by the end: at `Done` the model's replies to the frames that were
+    // read.
+    ensures run { IsEnd (S.left source.old) (S.left source.new) (K.held sink.old) (K.held sink.new) result }
     ensures bad_words { result ≡ Status.BadWords ↔ ¬ AreReplay words.now }
     ensures read_fault { result ≡ Status.ReadFault → Rose (S.faults source.old) (S.faults source.new) }
     ensures write_fault { result ≡ Status.WriteFault → Rose (K.faults sink.old) (K.faults sink.new) }

@@ -1,5 +1,5 @@
 use Rattle.std.proofs.Common.{◌≡◌, replicate}
-use Rattle.kd_world.specs.World.{stranger}
+use Rattle.kd_world.specs.State.{stranger}
 use Rattle.kd_core.proofs.world.strangers.Given as goal
 
 abbrev pub invariant-numbers : goal.invariant-numbers

@@ -3,7 +3,7 @@ use Rattle.std.specs.Prelude.{◌≡◌, true, length, refl, unwrap_or, is_ok}
 use Rattle.std.specs.List.{insert, position}
 use Rattle.std.proofs.Common.{ap, arith, sym, ◌∙◌}
 use Rattle.kd_model.proofs.Lists.{put_before}
-use Rattle.kd_desk.specs.Hello.{sits_before}
+use Rattle.kd_commands.specs.State.{sits_before}
 use Rattle.kd_desk.proofs.finishing.seat_conn.Goals as goal
 
 pub returns-clause-put : goal.returns-clause-put

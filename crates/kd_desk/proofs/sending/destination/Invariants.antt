@@ -1,5 +1,5 @@
 use Rattle.std.proofs.Common.{◌≡◌, None, take}
-use Rattle.kd_desk.specs.Items.{destination_name}
+use Rattle.kd_commands.specs.Items.{destination_name}
 use Rattle.kd_desk.proofs.sending.destination.Given as goal
 
 abbrev pub invariant-items : goal.invariant-items

@@ -1,6 +1,6 @@
 use Rattle.std.proofs.Common.{FitsSigned, rules, w64, ap, ◌∙◌}
 use Rattle.std.proofs.lemmas.Int.{to_z-of_z}
-use Rattle.kd_desk.specs.Items.{destination_name, payloads}
+use Rattle.kd_commands.specs.Items.{destination_name, payloads}
 use Rattle.kd_desk.proofs.Sorted.{message_is}
 use Rattle.kd_desk.proofs.sending.message_of.Goals as goal
 

@@ -1,5 +1,5 @@
 use Rattle.std.proofs.Common.{◌≡◌}
-use Rattle.kd_desk.specs.Items.{destination_name, payloads}
+use Rattle.kd_commands.specs.Items.{destination_name, payloads}
 use Rattle.kd_desk.proofs.sending.sort.Given as goal
 
 abbrev pub invariant-items : goal.invariant-items

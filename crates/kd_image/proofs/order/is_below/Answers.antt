@@ -1,4 +1,4 @@
-use Rattle.kd_image.proofs.Rising.{less_than}
+use Rattle.kd_model.proofs.Texts.{less_than}
 use Rattle.kd_image.proofs.order.is_below.Goals as goal
 
 pub returns : goal.returns

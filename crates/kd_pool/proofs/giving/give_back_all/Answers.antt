@@ -1,10 +1,11 @@
--- The slot in hand is in the book, and goes out of it if it has to; at the end those are left that stay.
+-- The slot in hand is in the book, and goes out of it if it has to; at the end those are left that
+-- stay.
 use Rattle.std.specs.Prelude.{List, true, map}
 use Rattle.std.proofs.Common.{ap, ◌∙◌}
 use Rattle.kd_model.specs.Slices.{Book}
 use Rattle.kd_pool.proofs.Sweeps.{is_in_book, none_stay, swept_all, sweeps_on}
-use Rattle.kd_pool.specs.State.{placed_of}
-use Rattle.kd_pool.specs.declared.slot.Slot.{Slot}
+use Rattle.kd_acts.specs.State.{placed_of}
+use Rattle.kd_acts.specs.declared.slot.Slot.{Slot}
 use Rattle.kd_pool.proofs.giving.give_back_all.Goals as goal
 
 pub give_back-requires : goal.give_back-requires

@@ -1,6 +1,7 @@
--- The slot in hand is in the book, and goes out of it if it has to; at the end those are left that stay.
+-- The slot in hand is in the book, and goes out of it if it has to; at the end those are left that
+-- stay.
 use Rattle.kd_pool.proofs.Sweeps.{is_in_book, swept_all, sweeps_on}
-use Rattle.kd_pool.specs.State.{is_waiting}
+use Rattle.kd_acts.specs.State.{is_waiting}
 use Rattle.kd_pool.proofs.giving.give_back_waiting.Goals as goal
 
 pub give_back_if_waiting-requires : goal.give_back_if_waiting-requires

@@ -2,7 +2,7 @@
 use Rattle.std.specs.Prelude.{◌+◌, length}
 use Rattle.std.proofs.Common.{ap, ◌∙◌}
 use Rattle.kd_pool.proofs.Writes.{written_twice}
-use Rattle.kd_pool.specs.Steps.{written}
+use Rattle.kd_acts.specs.Steps.{written}
 use Rattle.kd_pool.proofs.memory.write.Goals as goal
 
 pub returns : goal.returns

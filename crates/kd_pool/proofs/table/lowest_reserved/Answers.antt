@@ -4,8 +4,8 @@ use Rattle.std.proofs.lemmas.List.{drop_all}
 use Rattle.kd_model.proofs.Least.{lesser_none}
 use Rattle.kd_model.proofs.Lists.{rest_at}
 use Rattle.kd_pool.proofs.Picks.{leads_on, number_ranks}
-use Rattle.kd_pool.specs.State.{is_reserved}
-use Rattle.kd_pool.specs.Steps.{of_lower_number}
+use Rattle.kd_acts.specs.State.{is_reserved}
+use Rattle.kd_acts.specs.Steps.{of_lower_number}
 use Rattle.kd_pool.proofs.table.lowest_reserved.Goals as goal
 
 pub slots-preserved : goal.slots-preserved

@@ -1,6 +1,6 @@
 -- The slots so far are changed, the others as they were.
 use Rattle.std.specs.Prelude.{◌≡◌, ◌++◌, drop, map, take, vec_capacity}
-use Rattle.kd_pool.specs.Table.{in_phase}
+use Rattle.kd_acts.specs.Steps.{in_phase}
 use Rattle.kd_pool.proofs.table.set_phase.Given as goal
 
 abbrev pub invariant-slots : goal.invariant-slots

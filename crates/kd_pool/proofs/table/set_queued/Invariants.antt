@@ -1,6 +1,6 @@
 -- The slots so far are changed, the others as they were.
 use Rattle.std.specs.Prelude.{◌≡◌, ◌++◌, drop, map, take, vec_capacity}
-use Rattle.kd_pool.specs.Table.{now_queued}
+use Rattle.kd_acts.specs.Steps.{now_queued}
 use Rattle.kd_pool.proofs.table.set_queued.Given as goal
 
 abbrev pub invariant-slots : goal.invariant-slots

@@ -3,7 +3,7 @@ use Rattle.std.specs.List.{position, insert}
 use Rattle.std.proofs.lemmas.List.{length-set}
 use Rattle.std.proofs.lemmas.List.Edits.{length-insert}
 use Rattle.kd_model.specs.Words.{those}
-use Rattle.kd_registry.specs.Claims.{is_of, is_ordinary, ranks}
+use Rattle.kd_registry.specs.Claims.{is_claim_of, is_ordinary_claim, ranks}
 use Rattle.kd_registry.proofs.Places.{start_here, ranks_here, rank_within, ordinary_within, counts_one, counts_none, queues_again, queues_behind}
 use Rattle.kd_registry.proofs.edits.put_in_queue.Goals as goal
 
@@ -13,7 +13,7 @@ replace-requires c =
     let n = c.args.claim.name in
     let start = start_here c.start_of-start.result c.claims.result.now r c.bytes.result.now n c.start_of-start.ensures.place c.claims.ensures c.bytes.ensures in
     let mine = ranks_here c.ranks-mine.result.now c.claims-2.result.now r c.bytes-2.result.now n c.ranks-mine.ensures c.claims-2.ensures c.bytes-2.ensures in
-    let place : Some c.in-Some.rank ≡ position (is_of c.args.claim.id) (ranks r n) = c.in-Some.ensures ∙ ap (position (is_of c.args.claim.id)) mine in
+    let place : Some c.in-Some.rank ≡ position (is_claim_of c.args.claim.id) (ranks r n) = c.in-Some.ensures ∙ ap (position (is_claim_of c.args.claim.id)) mine in
     omega (arith, start, rank_within r c.args.claim.id n c.in-Some.rank c.requires.ranked place)
 
 pub overflow_add-behind : goal.overflow_add-behind
@@ -22,7 +22,7 @@ overflow_add-behind c =
     let n = c.args.claim.name in
     let start = start_here c.start_of-start.result c.claims.result.now r c.bytes.result.now n c.start_of-start.ensures.place c.claims.ensures c.bytes.ensures in
     let mine = ranks_here c.ranks-mine.result.now c.claims-2.result.now r c.bytes-2.result.now n c.ranks-mine.ensures c.claims-2.ensures c.bytes-2.ensures in
-    let count = c.ordinary_count.ensures ∙ ap (λ z. length (those is_ordinary z)) mine in
+    let count = c.ordinary_count.ensures ∙ ap (λ z. length (those is_ordinary_claim z)) mine in
     omega (arith, start, count, ordinary_within r n c.requires.ranked, c.requires.short)
 
 pub insert-requires-clause-within : goal.insert-requires-clause-within
@@ -31,7 +31,7 @@ insert-requires-clause-within c =
     let n = c.args.claim.name in
     let start = start_here c.start_of-start.result c.claims.result.now r c.bytes.result.now n c.start_of-start.ensures.place c.claims.ensures c.bytes.ensures in
     let mine = ranks_here c.ranks-mine.result.now c.claims-2.result.now r c.bytes-2.result.now n c.ranks-mine.ensures c.claims-2.ensures c.bytes-2.ensures in
-    let count = c.ordinary_count.ensures ∙ ap (λ z. length (those is_ordinary z)) mine in
+    let count = c.ordinary_count.ensures ∙ ap (λ z. length (those is_ordinary_claim z)) mine in
     omega (arith, start, count, ordinary_within r n c.requires.ranked)
 
 pub insert-requires-clause-room : goal.insert-requires-clause-room
@@ -39,7 +39,7 @@ insert-requires-clause-room c =
     let r = c.args.book.now in
     let n = c.args.claim.name in
     let mine = ranks_here c.ranks-mine.result.now c.claims-2.result.now r c.bytes-2.result.now n c.ranks-mine.ensures c.claims-2.ensures c.bytes-2.ensures in
-    let place : None ≡ position (is_of c.args.claim.id) (ranks r n) = c.in-None.ensures ∙ ap (position (is_of c.args.claim.id)) mine in
+    let place : None ≡ position (is_claim_of c.args.claim.id) (ranks r n) = c.in-None.ensures ∙ ap (position (is_claim_of c.args.claim.id)) mine in
     omega (arith, c.requires.room, counts_none r c.args.claim.id n place)
 
 pub returns-in-Some-clause-items : goal.returns-in-Some-clause-items
@@ -48,7 +48,7 @@ returns-in-Some-clause-items c =
     let n = c.args.claim.name in
     let start = start_here c.start_of-start.result c.claims.result.now r c.bytes.result.now n c.start_of-start.ensures.place c.claims.ensures c.bytes.ensures in
     let mine = ranks_here c.ranks-mine.result.now c.claims-2.result.now r c.bytes-2.result.now n c.ranks-mine.ensures c.claims-2.ensures c.bytes-2.ensures in
-    let place : Some c.in-Some.rank ≡ position (is_of c.args.claim.id) (ranks r n) = c.in-Some.ensures ∙ ap (position (is_of c.args.claim.id)) mine in
+    let place : Some c.in-Some.rank ≡ position (is_claim_of c.args.claim.id) (ranks r n) = c.in-Some.ensures ∙ ap (position (is_claim_of c.args.claim.id)) mine in
     c.replace.ensures ∙ queues_again r n c.args.claim c.start_of-start.result c.in-Some.rank c.requires.ranked start place
 
 pub returns-in-Some-clause-len : goal.returns-in-Some-clause-len
@@ -56,7 +56,7 @@ returns-in-Some-clause-len c =
     let r = c.args.book.now in
     let n = c.args.claim.name in
     let mine = ranks_here c.ranks-mine.result.now c.claims-2.result.now r c.bytes-2.result.now n c.ranks-mine.ensures c.claims-2.ensures c.bytes-2.ensures in
-    let place : Some c.in-Some.rank ≡ position (is_of c.args.claim.id) (ranks r n) = c.in-Some.ensures ∙ ap (position (is_of c.args.claim.id)) mine in
+    let place : Some c.in-Some.rank ≡ position (is_claim_of c.args.claim.id) (ranks r n) = c.in-Some.ensures ∙ ap (position (is_claim_of c.args.claim.id)) mine in
     omega (arith, ap length c.replace.ensures, length-set r (c.start_of-start.result + c.in-Some.rank) c.args.claim, counts_one r c.args.claim.id n c.in-Some.rank c.requires.ranked place)
 
 pub returns-in-None-clause-items : goal.returns-in-None-clause-items
@@ -65,8 +65,8 @@ returns-in-None-clause-items c =
     let n = c.args.claim.name in
     let start = start_here c.start_of-start.result c.claims.result.now r c.bytes.result.now n c.start_of-start.ensures.place c.claims.ensures c.bytes.ensures in
     let mine = ranks_here c.ranks-mine.result.now c.claims-2.result.now r c.bytes-2.result.now n c.ranks-mine.ensures c.claims-2.ensures c.bytes-2.ensures in
-    let place : None ≡ position (is_of c.args.claim.id) (ranks r n) = c.in-None.ensures ∙ ap (position (is_of c.args.claim.id)) mine in
-    let count = c.ordinary_count.ensures ∙ ap (λ z. length (those is_ordinary z)) mine in
+    let place : None ≡ position (is_claim_of c.args.claim.id) (ranks r n) = c.in-None.ensures ∙ ap (position (is_claim_of c.args.claim.id)) mine in
+    let count = c.ordinary_count.ensures ∙ ap (λ z. length (those is_ordinary_claim z)) mine in
     c.insert.ensures ∙ ap (λ k. insert r (c.start_of-start.result + k) c.args.claim) count ∙ queues_behind r n c.args.claim c.start_of-start.result c.requires.ranked start place
 
 pub returns-in-None-clause-len : goal.returns-in-None-clause-len
@@ -75,6 +75,6 @@ returns-in-None-clause-len c =
     let n = c.args.claim.name in
     let start = start_here c.start_of-start.result c.claims.result.now r c.bytes.result.now n c.start_of-start.ensures.place c.claims.ensures c.bytes.ensures in
     let mine = ranks_here c.ranks-mine.result.now c.claims-2.result.now r c.bytes-2.result.now n c.ranks-mine.ensures c.claims-2.ensures c.bytes-2.ensures in
-    let place : None ≡ position (is_of c.args.claim.id) (ranks r n) = c.in-None.ensures ∙ ap (position (is_of c.args.claim.id)) mine in
-    let count = c.ordinary_count.ensures ∙ ap (λ z. length (those is_ordinary z)) mine in
+    let place : None ≡ position (is_claim_of c.args.claim.id) (ranks r n) = c.in-None.ensures ∙ ap (position (is_claim_of c.args.claim.id)) mine in
+    let count = c.ordinary_count.ensures ∙ ap (λ z. length (those is_ordinary_claim z)) mine in
     omega (arith, ap length c.insert.ensures, length-insert r (c.start_of-start.result + c.ordinary_count.result) c.args.claim (omega (arith, start, count, ordinary_within r n c.requires.ranked)), counts_none r c.args.claim.id n place)

@@ -1,4 +1,4 @@
-use Rattle.kd_registry.proofs.Order.{less_than}
+use Rattle.kd_model.proofs.Texts.{less_than}
 use Rattle.kd_registry.proofs.search.is_below.Goals as goal
 
 pub returns : goal.returns

@@ -1,7 +1,9 @@
 use Rattle.std.proofs.Common.{◌≡◌, true, ◌∙◌, sym, ap, subst, arith}
-use Rattle.kd_world.specs.World.{World, Event, step}
+use Rattle.kd_world.specs.State.{World}
+use Rattle.kd_world.specs.Legal.{Event}
+use Rattle.kd_world.specs.Step.{step}
+use Rattle.kd_world.specs.Whole.{pending_count}
 use Rattle.kd_core.specs.Running.{may}
-use Rattle.kd_replay.specs.Turns.{pending_count}
 use Rattle.kd_replay.proofs.Publishes.{Publishing, publishing_first, publishing_more, publishing_ends, publish_may, one_fewer}
 use Rattle.kd_replay.proofs.running.publish.Goals as goal
 

@@ -1,4 +1,4 @@
-use Rattle.kd_replay.specs.Turns.{pending_count}
+use Rattle.kd_world.specs.Whole.{pending_count}
 use Rattle.kd_replay.proofs.Publishes.{Publishing}
 use Rattle.kd_replay.proofs.running.publish.Given as goal
 

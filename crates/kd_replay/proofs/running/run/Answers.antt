@@ -1,10 +1,12 @@
-use Rattle.std.proofs.Common.{◌≡◌, true, sym, subst}
-use Rattle.kd_pool.specs.declared.receive.RecvMode.{RecvMode}
-use Rattle.kd_world.specs.World.{receives}
+use Rattle.std.proofs.Common.{rules, ◌≡◌, true, sym, subst, ◌∙◌}
+use Rattle.kd_acts.specs.declared.receive.RecvMode.{RecvMode}
+use Rattle.kd_world.specs.Legal.{receives}
 use Rattle.kd_core.specs.Running.{may}
-use Rattle.kd_replay.specs.Turns.{IsReady}
+use Rattle.kd_replay.specs.Turns.{IsReady, mode_of}
 use Rattle.kd_replay.proofs.Holding.{ready_behind_receive, ready_behind_read, ready_behind_free}
 use Rattle.kd_replay.proofs.Modes.{receive_may, read_may, free_may, then_ok}
+use Rattle.kd_wire.proofs.Formed.{of_answer}
+use Rattle.kd_replay.proofs.Replies.{free_turn, read_turn, receive_turn}
 use Rattle.kd_replay.proofs.running.run.Goals as goal
 
 pub run_alone-requires : goal.run_alone-requires
@@ -26,3 +28,20 @@ returns-in-Read-clause-ready c = then_ok c.run_alone-in-Read.result (λ e. subst
 
 pub returns-in-Free-clause-ready : goal.returns-in-Free-clause-ready
 returns-in-Free-clause-ready c = then_ok c.run_alone-in-Free.result (λ e. subst IsReady (sym e) (ready_behind_free c.args.world.now.world c.args.caller c.slice_number-number-in-Free.result c.requires.ready)) c.run_alone-in-Free.ensures.next
+
+pub returns-in-Recv-clause-reply : goal.returns-in-Recv-clause-reply
+returns-in-Recv-clause-reply c =
+    let mode : c.mode_of-mode.result ≡ mode_of c.in-Recv.flags c.in-Recv.limit = search (rules, c.mode_of-mode.ensures) in
+    of_answer c.run_alone.result
+    (λ r e. e ∙ receive_turn c.args.world.now.world c.args.caller c.mode_of-mode.result c.in-Recv.flags c.in-Recv.limit c.args.command mode c.in-Recv.is)
+    c.run_alone.ensures.reply
+
+pub returns-in-Read-clause-reply : goal.returns-in-Read-clause-reply
+returns-in-Read-clause-reply c = of_answer c.run_alone-in-Read.result
+    (λ r e. e ∙ read_turn c.args.world.now.world c.args.caller c.slice_number-number.result c.in-Read.number c.in-Read.sealed c.args.command c.slice_number-number.ensures c.in-Read.is)
+    c.run_alone-in-Read.ensures.reply
+
+pub returns-in-Free-clause-reply : goal.returns-in-Free-clause-reply
+returns-in-Free-clause-reply c = of_answer c.run_alone-in-Free.result
+    (λ r e. e ∙ free_turn c.args.world.now.world c.args.caller c.slice_number-number-in-Free.result c.in-Free.number c.args.command c.slice_number-number-in-Free.ensures c.in-Free.is)
+    c.run_alone-in-Free.ensures.reply

@@ -1,7 +1,14 @@
 use Rattle.std.proofs.Common.{◌≡◌, true, length, ◌∙◌, sym, ap, subst}
-use Rattle.kd_world.specs.World.{World, holds_desk, leave, step, take}
-use Rattle.kd_replay.specs.Turns.{Turn, IsReady, published, reply_of, reply_to, visited}
+use Rattle.kd_world.specs.State.{World}
+use Rattle.kd_world.specs.Holding.{holds_desk}
+use Rattle.kd_world.specs.Legal.{leave, take}
+use Rattle.kd_world.specs.Step.{step}
+use Rattle.kd_world.specs.Answers.{says}
+use Rattle.kd_world.specs.Whole.{Whole, published, visits_run}
+use Rattle.kd_replay.specs.Turns.{IsReady, reply_of}
+use Rattle.kd_replay.specs.Answering.{reply_with}
 use Rattle.kd_replay.proofs.Holding.{callers_stay, free_behind_leave}
+use Rattle.kd_replay.proofs.Replies.{leave_replied}
 use Rattle.kd_replay.proofs.Takes.{turned_away, taken}
 use Rattle.kd_replay.proofs.Visits.{leave_may}
 use Rattle.kd_replay.proofs.running.run_at_desk.Goals as goal
@@ -37,9 +44,10 @@ publish-requires c =
 pub returns : goal.returns
 returns c =
     let inside = taken c.args.world.now.world c.args.caller c.args.command (λ why e. c.in_default.not-Refused why (c.in_ok-taken.ensures.answer ∙ e)) in
-    let seen = c.in_ok-visit.ensures.next ∙ ap (λ (w : World). visited w c.args.caller) c.in_ok-taken.ensures.next in
+    let seen = c.in_ok-visit.ensures.next ∙ ap (λ (w : World). visits_run w c.args.caller) c.in_ok-taken.ensures.next in
     record {
-      next = c.in_ok-publish.ensures.next ∙ ap (λ (w : World). published w c.args.caller) (c.in_ok-answer.ensures.next ∙ ap (λ (w : World). step w (leave c.args.caller)) seen) ∙ sym (ap (λ (t : Turn). t.next) inside.turn);
-      reply = c.reply_of.ensures ∙ ap reply_of c.in_ok-answer.ensures.answer ∙ ap (λ (w : World). reply_to w (leave c.args.caller)) seen ∙ sym (ap (λ (t : Turn). t.reply) inside.turn);
+      next = c.in_ok-publish.ensures.next ∙ ap (λ (w : World). published w c.args.caller) (c.in_ok-answer.ensures.next ∙ ap (λ (w : World). step w (leave c.args.caller)) seen) ∙ sym (ap (λ (t : Whole). t.next) inside.turn);
+      reply = c.reply_of.ensures ∙ ap reply_with c.in_ok-answer.ensures.answer ∙ leave_replied c.args.caller (says c.visit.new.world.world (leave c.args.caller))
+          ∙ ap (λ (w : World). reply_of (says w (leave c.args.caller))) seen ∙ sym (ap (λ (t : Whole). reply_of t.answer) inside.turn);
       ready = c.in_ok-publish.ensures.ready;
     }

@@ -1,5 +1,5 @@
 use Rattle.std.proofs.Common.{◌∙◌, sym, ap, subst, arith}
-use Rattle.kd_world.specs.World.{World}
+use Rattle.kd_world.specs.State.{World}
 use Rattle.kd_replay.proofs.Visits.{Visiting, remaining, visiting_first, visiting_more, visiting_ends, visited_one}
 use Rattle.kd_replay.proofs.running.visit.Goals as goal
 

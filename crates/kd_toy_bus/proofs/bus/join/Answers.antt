@@ -1,10 +1,10 @@
 use Rattle.std.specs.Prelude.{None}
 use Rattle.std.proofs.Common.{◌≡◌, ℕ, suc, ◌+◌, ◌≢◌, true, false, cond, set, get_or, eq-eqb, [], ◌∷◌, ◌++◌, refl, sym, ap, subst, ◌∙◌, arith, slice_index}
 use Rattle.kd_hands.specs.Views.{part}
-use Rattle.kd_hands.specs.World.{Fact, hands_after}
+use Rattle.kd_hands.specs.Locks.{Fact, hands_after}
 use Rattle.kd_toy_bus.specs.declared.act.Act.TheVariants.{Join, Raise}
 use Rattle.kd_toy_bus.specs.declared.locked.Locked.TheVariants as locked
-use Rattle.kd_toy_bus.specs.Bus.{Tie, raised, stands, lends, out, keeper, hand_after, empties, keeps, kept_from, pool_after, pool_of, is_seated, sits, made_by_one}
+use Rattle.kd_toy_bus.specs.Bus.{Tie, raised, stands, lends, out, keeper, slip_hand, empties, keeper_after, kept_from, pool_after, pool_of, is_seated, sits, made_by_one}
 use Rattle.kd_toy_bus.proofs.Chains.{desk_adds, pool_adds, seen_is, none_held, each_word, desk_put, opened_is, idle_again, own_is, seated_after}
 use Rattle.kd_toy_bus.proofs.Puts.{stands_as, knows, knows_still, knows_join, kept_still, kept_joined, nobody_at, idle_leaves, raise_owes, join_leaves, one_part}
 use Rattle.kd_toy_bus.proofs.bus.join.Goals as goal
@@ -12,7 +12,7 @@ use Rattle.kd_toy_bus.proofs.bus.join.Goals as goal
 pub put-requires-clause-stands : goal.put-requires-clause-stands
 put-requires-clause-stands g c =
     let list = (part c.take.new.self.view 0).seen in
-    knows_still list c.in-Desk.desk (c.take.new.self.view.name, c.of.result) (knows list c.in-Desk.desk c.in-Desk.ensures.took.value) (λ i. ap (λ a. keeps i c.take.new.self.view.name a (kept_from i None list)) c.of.ensures)
+    knows_still list c.in-Desk.desk (c.take.new.self.view.name, c.of.result) (knows list c.in-Desk.desk c.in-Desk.ensures.took.value) (λ i. ap (λ a. keeper_after i c.take.new.self.view.name a (kept_from i None list)) c.of.ensures)
 
 pub put-requires-clause-tie : goal.put-requires-clause-tie
 put-requires-clause-tie g c = idle_leaves c.of.result c.take.new.self.view c.in-Desk.ensures.took.holds c.of.ensures (c.in-Desk.ensures.took.shut (c.requires.idle.holds 0))
@@ -61,12 +61,12 @@ put-requires-3-clause-tie g c =
     let swept = c.sweep.ensures.swept in
     let put = c.put-2.ensures.passed in
     let v₅ = c.put-2.new.self.view in
-    let opened = opened_is stands (Fact Tie lends out keeper) (hands_after hand_after empties) l far (locked.Desk c.in-Desk.desk) (locked.Pool c.in-Pool.field-0) c.of-2.result c.of-3.result c.sweep.result c.args.pass.now.view c.take.new.self.view c.take-2.new.self.view c.sweep.new.self.view v₅ v₅ one two swept put c.requires.idle.holds in
-    let held = ap (λ p. p.holds) (desk_put stands (Fact Tie lends out keeper) (hands_after hand_after empties) l far (locked.Desk c.in-Desk.desk) (locked.Pool c.in-Pool.field-0) c.of-2.result c.of-3.result c.sweep.result c.args.pass.now.view c.take.new.self.view c.take-2.new.self.view c.sweep.new.self.view v₅ v₅ one two swept put c.requires.idle.holds) ∙ one.holds in
+    let opened = opened_is stands (Fact Tie lends out keeper) (hands_after slip_hand empties) l far (locked.Desk c.in-Desk.desk) (locked.Pool c.in-Pool.field-0) c.of-2.result c.of-3.result c.sweep.result c.args.pass.now.view c.take.new.self.view c.take-2.new.self.view c.sweep.new.self.view v₅ v₅ one two swept put c.requires.idle.holds in
+    let held = ap (λ p. p.holds) (desk_put stands (Fact Tie lends out keeper) (hands_after slip_hand empties) l far (locked.Desk c.in-Desk.desk) (locked.Pool c.in-Pool.field-0) c.of-2.result c.of-3.result c.sweep.result c.args.pass.now.view c.take.new.self.view c.take-2.new.self.view c.sweep.new.self.view v₅ v₅ one two swept put c.requires.idle.holds) ∙ one.holds in
     let list = (part c.take.new.self.view 0).seen in
     let free_seat : get_or c.in-Desk.desk.taken c.args.seat false ≡ false = c.if-desk-seat.false in
     let free = nobody_at list c.in-Desk.desk c.args.seat (knows list c.in-Desk.desk one.value) c.requires.seat free_seat in
-    let same = desk_put stands (Fact Tie lends out keeper) (hands_after hand_after empties) l far (locked.Desk c.in-Desk.desk) (locked.Pool c.in-Pool.field-0) c.of-2.result c.of-3.result c.sweep.result c.args.pass.now.view c.take.new.self.view c.take-2.new.self.view c.sweep.new.self.view v₅ v₅ one two swept put c.requires.idle.holds in
+    let same = desk_put stands (Fact Tie lends out keeper) (hands_after slip_hand empties) l far (locked.Desk c.in-Desk.desk) (locked.Pool c.in-Pool.field-0) c.of-2.result c.of-3.result c.sweep.result c.args.pass.now.view c.take.new.self.view c.take-2.new.self.view c.sweep.new.self.view v₅ v₅ one two swept put c.requires.idle.holds in
     join_leaves c.args.seat c.of-3.result v₅ held c.of-3.ensures (one_part c.args.seat l c.sweep.new.self.view.name c.of-2.result raised v₅.opened eq (ap made_by_one c.of-2.ensures) opened) (ap (λ p. kept_from c.args.seat None p.seen) same ∙ free)
 
 pub returns-clause-idle : goal.returns-clause-idle
@@ -77,39 +77,39 @@ returns-clause-idle g c =
       same = c.put-3.ensures.gate ∙ (c.put-2.ensures.gate ∙ (c.sweep.ensures.gate ∙ (c.in-Pool.ensures.gate ∙ (c.in-Desk.ensures.gate ∙ c.requires.idle.same))));
       four = c.requires.idle.four;
       held = none_held l c.args.pass.now.held c.take.new.self.held c.take-2.new.self.held c.sweep.new.self.held c.put-2.new.self.held c.put-3.new.self.held c.requires.idle.held c.in-Desk.ensures.held c.in-Pool.ensures.held c.sweep.ensures.held c.put-2.ensures.held c.put-3.ensures.held;
-      holds = idle_again stands (Fact Tie lends out keeper) (hands_after hand_after empties) l far (locked.Desk c.in-Desk.desk) (locked.Pool c.in-Pool.field-0) c.of-2.result c.of-3.result c.sweep.result c.args.pass.now.view c.take.new.self.view c.take-2.new.self.view c.sweep.new.self.view c.put-2.new.self.view c.put-3.new.self.view c.in-Desk.ensures.took c.in-Pool.ensures.took c.sweep.ensures.swept c.put-2.ensures.passed c.requires.idle.holds c.put-3.ensures.passed;
+      holds = idle_again stands (Fact Tie lends out keeper) (hands_after slip_hand empties) l far (locked.Desk c.in-Desk.desk) (locked.Pool c.in-Pool.field-0) c.of-2.result c.of-3.result c.sweep.result c.args.pass.now.view c.take.new.self.view c.take-2.new.self.view c.sweep.new.self.view c.put-2.new.self.view c.put-3.new.self.view c.in-Desk.ensures.took c.in-Pool.ensures.took c.sweep.ensures.swept c.put-2.ensures.passed c.requires.idle.holds c.put-3.ensures.passed;
     }
 
 pub returns-clause-seated : goal.returns-clause-seated
 returns-clause-seated g c = λ _.
     let l : ℕ = c.args.seat + 1 in
     let far : l ≢ 0 = λ z. omega arith in
-    let own = own_is stands (Fact Tie lends out keeper) (hands_after hand_after empties) l far (locked.Desk c.in-Desk.desk) (locked.Pool c.in-Pool.field-0) c.of-2.result c.of-3.result c.sweep.result c.args.pass.now.view c.take.new.self.view c.take-2.new.self.view c.sweep.new.self.view c.put-2.new.self.view c.put-3.new.self.view c.in-Desk.ensures.took c.in-Pool.ensures.took c.sweep.ensures.swept c.put-2.ensures.passed c.requires.idle.holds c.put-3.ensures.passed in
+    let own = own_is stands (Fact Tie lends out keeper) (hands_after slip_hand empties) l far (locked.Desk c.in-Desk.desk) (locked.Pool c.in-Pool.field-0) c.of-2.result c.of-3.result c.sweep.result c.args.pass.now.view c.take.new.self.view c.take-2.new.self.view c.sweep.new.self.view c.put-2.new.self.view c.put-3.new.self.view c.in-Desk.ensures.took c.in-Pool.ensures.took c.sweep.ensures.swept c.put-2.ensures.passed c.requires.idle.holds c.put-3.ensures.passed in
     seated_after c.args.seat (part c.args.pass.now.view 0).own (part c.put-3.new.self.view 0).own (c.put-2.new.self.view.name, c.of-3.result) own ∙ (ap (λ a. sits c.args.seat a (is_seated c.args.seat (part c.args.pass.now.view 0).own)) c.of-3.ensures ∙ ap (λ b. cond b true (is_seated c.args.seat (part c.args.pass.now.view 0).own)) (eq-eqb c.args.seat c.args.seat refl))
 
 pub returns-clause-joined : goal.returns-clause-joined
 returns-clause-joined g c = λ _.
     let l : ℕ = c.args.seat + 1 in
     let far : l ≢ 0 = λ z. omega arith in
-    desk_adds stands (Fact Tie lends out keeper) (hands_after hand_after empties) l far (locked.Desk c.in-Desk.desk) (locked.Pool c.in-Pool.field-0) c.of-2.result c.of-3.result c.sweep.result c.args.pass.now.view c.take.new.self.view c.take-2.new.self.view c.sweep.new.self.view c.put-2.new.self.view c.put-3.new.self.view c.in-Desk.ensures.took c.in-Pool.ensures.took c.sweep.ensures.swept c.put-2.ensures.passed c.requires.idle.holds c.put-3.ensures.passed (Join c.args.seat) c.of-3.ensures
+    desk_adds stands (Fact Tie lends out keeper) (hands_after slip_hand empties) l far (locked.Desk c.in-Desk.desk) (locked.Pool c.in-Pool.field-0) c.of-2.result c.of-3.result c.sweep.result c.args.pass.now.view c.take.new.self.view c.take-2.new.self.view c.sweep.new.self.view c.put-2.new.self.view c.put-3.new.self.view c.in-Desk.ensures.took c.in-Pool.ensures.took c.sweep.ensures.swept c.put-2.ensures.passed c.requires.idle.holds c.put-3.ensures.passed (Join c.args.seat) c.of-3.ensures
 
 pub returns-clause-raised : goal.returns-clause-raised
 returns-clause-raised g c = λ _.
     let l : ℕ = c.args.seat + 1 in
     let far : l ≢ 0 = λ z. omega arith in
-    pool_adds stands (Fact Tie lends out keeper) (hands_after hand_after empties) l far (locked.Desk c.in-Desk.desk) (locked.Pool c.in-Pool.field-0) c.of-2.result c.of-3.result c.sweep.result c.args.pass.now.view c.take.new.self.view c.take-2.new.self.view c.sweep.new.self.view c.put-2.new.self.view c.put-3.new.self.view c.in-Desk.ensures.took c.in-Pool.ensures.took c.sweep.ensures.swept c.put-2.ensures.passed c.requires.idle.holds c.put-3.ensures.passed Raise c.of-2.ensures
+    pool_adds stands (Fact Tie lends out keeper) (hands_after slip_hand empties) l far (locked.Desk c.in-Desk.desk) (locked.Pool c.in-Pool.field-0) c.of-2.result c.of-3.result c.sweep.result c.args.pass.now.view c.take.new.self.view c.take-2.new.self.view c.sweep.new.self.view c.put-2.new.self.view c.put-3.new.self.view c.in-Desk.ensures.took c.in-Pool.ensures.took c.sweep.ensures.swept c.put-2.ensures.passed c.requires.idle.holds c.put-3.ensures.passed Raise c.of-2.ensures
 
 pub returns-clause-taken : goal.returns-clause-taken
 returns-clause-taken g c =
     let l : ℕ = c.args.seat + 1 in
     let far : l ≢ 0 = λ z. omega arith in
     kept_joined (part c.take.new.self.view 0).seen c.put-2.new.self.view.name c.args.seat c.of-3.result (part c.put-3.new.self.view 0).seen c.of-3.ensures
-    (seen_is stands (Fact Tie lends out keeper) (hands_after hand_after empties) l far (locked.Desk c.in-Desk.desk) (locked.Pool c.in-Pool.field-0) c.of-2.result c.of-3.result c.sweep.result c.args.pass.now.view c.take.new.self.view c.take-2.new.self.view c.sweep.new.self.view c.put-2.new.self.view c.put-3.new.self.view c.in-Desk.ensures.took c.in-Pool.ensures.took c.sweep.ensures.swept c.put-2.ensures.passed c.requires.idle.holds c.put-3.ensures.passed)
+    (seen_is stands (Fact Tie lends out keeper) (hands_after slip_hand empties) l far (locked.Desk c.in-Desk.desk) (locked.Pool c.in-Pool.field-0) c.of-2.result c.of-3.result c.sweep.result c.args.pass.now.view c.take.new.self.view c.take-2.new.self.view c.sweep.new.self.view c.put-2.new.self.view c.put-3.new.self.view c.in-Desk.ensures.took c.in-Pool.ensures.took c.sweep.ensures.swept c.put-2.ensures.passed c.requires.idle.holds c.put-3.ensures.passed)
 
 pub returns-then-desk-seat-clause-taken : goal.returns-then-desk-seat-clause-taken
 returns-then-desk-seat-clause-taken g c =
     let list = (part c.take.new.self.view 0).seen in
     let name = c.take.new.self.view.name in
     let still = kept_still list c.in-Desk.desk c.args.seat (name, c.of.result) (part c.put.new.self.view 0).seen (knows list c.in-Desk.desk c.in-Desk.ensures.took.value) c.requires.seat
-    (ap (λ a. keeps c.args.seat name a (kept_from c.args.seat None list)) c.of.ensures) (ap (λ p. p.seen) c.put.ensures.passed.here) in
+    (ap (λ a. keeper_after c.args.seat name a (kept_from c.args.seat None list)) c.of.ensures) (ap (λ p. p.seen) c.put.ensures.passed.here) in
     sym still ∙ c.if-desk-seat.true

@@ -1,9 +1,9 @@
 use Rattle.std.proofs.Common.{◌≡◌, ℕ, suc, ◌+◌, ◌≢◌, sym, ap, ◌∙◌, arith}
 use Rattle.kd_hands.specs.Views.{part}
-use Rattle.kd_hands.specs.World.{Fact, hands_after}
+use Rattle.kd_hands.specs.Locks.{Fact, hands_after}
 use Rattle.kd_toy_bus.specs.declared.act.Act.TheVariants.{Receive}
 use Rattle.kd_toy_bus.specs.declared.locked.Locked.TheVariants as locked
-use Rattle.kd_toy_bus.specs.Bus.{Tie, stands, lends, out, keeper, hand_after, empties, received, pool_after, pool_of, is_seated}
+use Rattle.kd_toy_bus.specs.Bus.{Tie, stands, lends, out, keeper, slip_hand, empties, received, pool_after, pool_of, is_seated}
 use Rattle.kd_toy_bus.proofs.Chains.{alone_adds}
 use Rattle.kd_toy_bus.proofs.Puts.{pool_still, pool_is, stands_as, idle_owes, receive_owes}
 use Rattle.kd_toy_bus.proofs.bus.receive.Goals as goal
@@ -45,4 +45,4 @@ returns-then-not-placed-clause-nothing g c = λ _ now.
     c.is_placed-placed.ensures.other c.if-not-placed.true (sym (pool_is c.args.seat l eq seen c.in-Pool.pool c.in-Pool.ensures.took.value) ∙ (sym still ∙ now))
 
 pub returns-clause-took : goal.returns-clause-took
-returns-clause-took g c = λ _. alone_adds stands (Fact Tie lends out keeper) (hands_after hand_after empties) (c.args.seat + 1) Receive (locked.Pool c.in-Pool.pool) c.of-2.result c.args.pass.now.view c.take.new.self.view c.put-2.new.self.view c.in-Pool.ensures.took c.put-2.ensures.passed c.of-2.ensures
+returns-clause-took g c = λ _. alone_adds stands (Fact Tie lends out keeper) (hands_after slip_hand empties) (c.args.seat + 1) Receive (locked.Pool c.in-Pool.pool) c.of-2.result c.args.pass.now.view c.take.new.self.view c.put-2.new.self.view c.in-Pool.ensures.took c.put-2.ensures.passed c.of-2.ensures

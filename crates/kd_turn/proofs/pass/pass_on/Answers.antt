@@ -1,6 +1,6 @@
 use Rattle.std.proofs.Common.{◌≡◌, ◌+◌, ◌<◌, refl, sym, ap, ◌∙◌, arith}
 use Rattle.atomic_table.specs.Table.{rest}
-use Rattle.kd_hands.specs.World.{hands_after}
+use Rattle.kd_hands.specs.Locks.{hands_after}
 use Rattle.kd_hands.specs.Views.{passed_on}
 use Rattle.kd_turn.proofs.Passes.{passes}
 use Rattle.kd_turn.proofs.pass.pass_on.Goals as goal

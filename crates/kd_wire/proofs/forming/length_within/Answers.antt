@@ -1,10 +1,10 @@
 use Rattle.std.proofs.Common.{◌+◌, ◌≤◌, arith, ap, ◌∙◌}
 use Rattle.kd_wire.proofs.Lengths.{spelled_more}
-use Rattle.kd_wire.proofs.Formed.{passes}
+use Rattle.kd_wire.proofs.Formed.{exceeds}
 use Rattle.kd_wire.proofs.forming.length_within.Goals as goal
 
 pub returns-then-length-total : goal.returns-then-length-total
-returns-then-length-total c = passes c.args.items.now c.items.item-index c.items.total c.length-length.result c.item-item.result c.items-test.true c.item-item.is c.items.invariant.0 c.length-length.ensures c.if-length-total.true
+returns-then-length-total c = exceeds c.args.items.now c.items.item-index c.items.total c.length-length.result c.item-item.result c.items-test.true c.item-item.is c.items.invariant.0 c.length-length.ensures c.if-length-total.true
 
 pub items-preserved : goal.items-preserved
 items-preserved c =

@@ -1,7 +1,9 @@
 -- The caller frees at its own pool, and nothing else is changed.
 use Rattle.std.proofs.Common.{◌≡◌, ◌<◌, ◌-◌, ◌^◌, ap, length, refl, rules, subst, sym, ◌∙◌}
 use Rattle.std.proofs.lemmas.List.{get_or_read, length-set}
-use Rattle.kd_world.specs.World.{caller_at, legal, says, stranger, frees}
+use Rattle.kd_world.specs.State.{caller_at, stranger}
+use Rattle.kd_world.specs.Legal.{legal, frees}
+use Rattle.kd_world.specs.Answers.{says}
 use Rattle.kd_core.specs.Running.{Running, may, said, stepped}
 use Rattle.kd_core.proofs.Seen.{inner}
 use Rattle.kd_core.proofs.Delivered.{quiet_free, free_moves, free_says, whole_after}

@@ -1,7 +1,8 @@
 -- Its caller keeps what it placed, and the desk goes on by the end of its command.
 use Rattle.std.proofs.Common.{◌≡◌, ◌<◌, ◌-◌, ◌^◌, length, refl, rules, subst, sym}
 use Rattle.std.proofs.lemmas.List.{get_or_read, length-set}
-use Rattle.kd_world.specs.World.{caller_at, legal, stranger}
+use Rattle.kd_world.specs.State.{caller_at, stranger}
+use Rattle.kd_world.specs.Legal.{legal}
 use Rattle.kd_core.specs.Running.{Running, may}
 use Rattle.kd_core.proofs.Gone.{fits_in, holding_in, left_said, left_so, whole_left}
 use Rattle.kd_core.proofs.Seen.{inner}

@@ -1,10 +1,11 @@
 use Rattle.std.proofs.Common.{arith, length, ap, sym, subst, None}
 use Rattle.std.specs.List.{AllByRecursion}
-use Rattle.kd_core.specs.Counts.{IsBelow}
+use Rattle.kd_holds.specs.Counts.{IsBelow}
 use Rattle.kd_world.proofs.Reached.{reached_at_first}
-use Rattle.kd_world.specs.Agreed.{IsReached}
-use Rattle.kd_world.specs.World.{new_world}
-use Rattle.kd_core.proofs.Counting.{closed_below, starts_low}
+use Rattle.kd_world.specs.State.{new_world}
+use Rattle.kd_world.specs.Runs.{IsReached}
+use Rattle.kd_holds.proofs.Counting.{closed_below}
+use Rattle.kd_core.proofs.Wholes.{starts_low}
 use Rattle.kd_core.proofs.world.World.make.Goals as goal
 
 pub invariant_of-result : goal.invariant_of-result

@@ -1,5 +1,6 @@
 use Rattle.std.proofs.Common.{◌≡◌, ◌∙◌, sym, subst}
-use Rattle.kd_core.specs.Running.{Running, next_seat}
+use Rattle.kd_core.specs.Running.{Running}
+use Rattle.kd_world.specs.Whole.{next_seat}
 use Rattle.kd_core.proofs.Seen.{seat_ahead_in}
 use Rattle.kd_core.proofs.world.World.next_seat.Goals as goal
 

@@ -1,5 +1,5 @@
 use Rattle.std.proofs.Common.{◌<◌, ◌^◌, ◌+◌, ◌∙◌, sym, subst, ap}
-use Rattle.kd_world.specs.World.{reads}
+use Rattle.kd_world.specs.Legal.{reads}
 use Rattle.kd_core.specs.Running.{Running, stepped}
 use Rattle.kd_core.proofs.Delivered.{reading_changes_nothing}
 use Rattle.kd_core.proofs.Seen.{inner}

@@ -1,7 +1,9 @@
 -- The caller receives at its own pool, and nothing else is changed.
 use Rattle.std.proofs.Common.{◌≡◌, ◌<◌, ◌-◌, ◌^◌, ap, length, refl, rules, subst, sym, ◌∙◌}
 use Rattle.std.proofs.lemmas.List.{get_or_read, length-set}
-use Rattle.kd_world.specs.World.{caller_at, legal, says, stranger, receives}
+use Rattle.kd_world.specs.State.{caller_at, stranger}
+use Rattle.kd_world.specs.Legal.{legal, receives}
+use Rattle.kd_world.specs.Answers.{says}
 use Rattle.kd_core.specs.Running.{Running, may, said, stepped}
 use Rattle.kd_core.proofs.Seen.{inner}
 use Rattle.kd_core.proofs.Delivered.{quiet_at, receive_moves, receive_says, whole_after}

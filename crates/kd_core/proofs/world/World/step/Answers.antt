@@ -3,8 +3,10 @@ use Rattle.kd_core.proofs.Alongs.{either_way, reached_by}
 use Rattle.kd_core.specs.Running.{Running, event_of, stepped}
 use Rattle.kd_world.proofs.Reached.{hands_always_agree}
 use Rattle.kd_world.proofs.Staying as staying
-use Rattle.kd_world.specs.Agreed.{HandsAgree, IsReached}
-use Rattle.kd_world.specs.World.{World, step}
+use Rattle.kd_world.specs.State.{World}
+use Rattle.kd_world.specs.Step.{step}
+use Rattle.kd_world.specs.Runs.{IsReached}
+use Rattle.kd_world.specs.Agreed.{HandsAgree}
 use Rattle.kd_core.proofs.world.World.step.Goals as goal
 
 pub returns-clause-hands : goal.returns-clause-hands

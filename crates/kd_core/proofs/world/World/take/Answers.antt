@@ -1,7 +1,7 @@
 use Rattle.std.proofs.Common.{rules, ◌≢◌, ◌<◌, ◌∙◌, ◌^◌, sym, subst, ap}
 use Rattle.kd_types.specs.declared.refusal.Refusal.TheVariants as why
 use Rattle.kd_desk.specs.Drafts.{drafted}
-use Rattle.kd_world.specs.World.{Caller}
+use Rattle.kd_world.specs.State.{Caller}
 use Rattle.kd_core.specs.Running.{Running}
 use Rattle.kd_core.proofs.Takes.{takes_as_caller}
 use Rattle.kd_core.proofs.Wholes.{newly_held, refusal_is, refused_in, refused_said, taken_in, taken_said, whole_held, whole_later}

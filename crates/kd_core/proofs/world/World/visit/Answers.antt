@@ -1,6 +1,6 @@
 use Rattle.std.proofs.Common.{◌∙◌, ◌^◌, ◌-◌, ◌<◌, ◌≤◌, arith, sym, subst}
 use Rattle.kd_core.specs.Running.{Running}
-use Rattle.kd_core.proofs.Below.{below_more}
+use Rattle.kd_holds.proofs.Below.{below_more}
 use Rattle.kd_core.proofs.VisitLaws.{on_any_err, ready_in, visited_in, visited_said, visited_so, unvisited_in, unvisited_so, visiting_in, whole_unvisited, whole_visited}
 use Rattle.kd_core.proofs.world.World.visit.Goals as goal
 

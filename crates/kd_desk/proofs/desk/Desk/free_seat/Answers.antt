@@ -1,6 +1,7 @@
--- A seat that isn't free leaves those behind it, a free one is the answer, and behind the last there is none.
+-- A seat that isn't free leaves those behind it, a free one is the answer, and behind the last
+-- there is none.
 use Rattle.std.proofs.Common.{sym, ◌∙◌}
-use Rattle.kd_desk.proofs.Seats.{finds_none, free_from_start, passes_over, stops_at}
+use Rattle.kd_commands.proofs.Seats.{finds_none, free_from_start, passes_over, stops_at}
 use Rattle.kd_desk.proofs.desk.Desk.free_seat.Goals as goal
 
 pub seats-init : goal.seats-init

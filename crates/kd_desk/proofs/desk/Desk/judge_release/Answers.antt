@@ -1,6 +1,6 @@
 use Rattle.std.proofs.Common.{Err, ap, ◌∙◌}
 use Rattle.kd_registry.specs.Claims.{release_answer}
-use Rattle.kd_desk.specs.State.{Desk}
+use Rattle.kd_commands.specs.State.{Desk}
 use Rattle.kd_desk.specs.Owners.{hidden}
 use Rattle.kd_desk.proofs.NamePlans.{release_ok, release_err}
 use Rattle.kd_desk.proofs.desk.Desk.judge_release.Goals as goal

@@ -2,8 +2,8 @@ use Rattle.std.proofs.Common.{rules, ap, ◌∙◌}
 use Rattle.std.proofs.lemmas.Fn.{filter_same}
 use Rattle.kd_model.specs.Words.{those}
 use Rattle.kd_registry.specs.Changes.{names_of}
-use Rattle.kd_desk.specs.Rights.{may_see_name}
-use Rattle.kd_desk.specs.State.{Desk}
+use Rattle.kd_commands.specs.Rights.{may_see_name}
+use Rattle.kd_commands.specs.State.{Desk}
 use Rattle.kd_desk.proofs.desk.Desk.names_for.Goals as goal
 
 pub returns : goal.returns

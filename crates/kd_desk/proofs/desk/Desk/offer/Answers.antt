@@ -1,10 +1,10 @@
 use Rattle.std.proofs.Common.{◌++◌, ◌∷◌, [], ap, ◌∙◌}
-use Rattle.kd_desk.specs.Send.{Part}
+use Rattle.kd_commands.specs.Plans.{Part}
 use Rattle.kd_desk.proofs.Offering.{offer_fits, offered_is}
 use Rattle.kd_desk.proofs.desk.Desk.offer.Goals as goal
 
-pub push-requires : goal.push-requires
-push-requires c =
+pub push-requires-clause-visitable : goal.push-requires-clause-visitable
+push-requires-clause-visitable c =
     let s = c.args.sender.now in
     offer_fits c.args.receiver.now.seat s.creds.uid c.image_len.result s.id c.args.must c.args.letter.now.message c.in_ok-attached.attached c.requires.seat c.image_len.ensures.value
 

@@ -1,11 +1,11 @@
 use Rattle.std.proofs.Common.{◌≡◌, ◌∷◌, map, take, true, false}
 use Rattle.kd_model.specs.Words.{those}
-use Rattle.kd_desk.specs.declared.conn.Conn.{Conn}
-use Rattle.kd_desk.specs.State.{is_monitor}
-use Rattle.kd_desk.specs.Sending.{offered}
+use Rattle.kd_commands.specs.declared.conn.Conn.{Conn}
+use Rattle.kd_commands.specs.State.{is_monitor}
+use Rattle.kd_desk.specs.Sending.{plain_offer}
 use Rattle.kd_desk.proofs.desk.Desk.offers.Given as goal
 
 abbrev pub invariant-monitors : goal.invariant-monitors
 invariant-monitors l =
-    l.offers ≡ offered l.self l.sender l.letter.message l.receiver.id true l.receiver
-    ∷ map (offered l.self l.sender l.letter.message l.receiver.id false) (those (λ (c : Conn). is_monitor c.kind) (take l.conn-index l.self.conns))
+    l.offers ≡ plain_offer l.self l.sender l.letter.message l.receiver.id true l.receiver
+    ∷ map (plain_offer l.self l.sender l.letter.message l.receiver.id false) (those (λ (c : Conn). is_monitor c.kind) (take l.conn-index l.self.conns))

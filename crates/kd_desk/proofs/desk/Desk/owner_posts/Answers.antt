@@ -1,13 +1,17 @@
 use Rattle.std.proofs.Common.{subst}
 use Rattle.std.specs.List.{AllByRecursion}
-use Rattle.kd_desk.specs.State.{Desk}
+use Rattle.kd_commands.specs.State.{Desk}
 use Rattle.kd_desk.specs.Room.{IsSeated}
-use Rattle.kd_desk.specs.Audience.{new_owner}
-use Rattle.kd_desk.specs.News.{change_in}
-use Rattle.kd_desk.proofs.Visits.{visitable_posts}
+use Rattle.kd_commands.specs.Audience.{new_owner}
+use Rattle.kd_desk.proofs.Visits.{contentless_posts, visitable_posts}
 use Rattle.kd_desk.proofs.desk.Desk.owner_posts.Goals as goal
 
 pub returns-clause-visitable : goal.returns-clause-visitable
 returns-clause-visitable c =
     let seats = subst (λ (d : Desk). AllByRecursion IsSeated d.conns) c.self.view_is c.self.invariant.seats in
-    visitable_posts c.args.self.now (new_owner (change_in c.args.change.now)) c.in_ok-parts.parts.items seats c.in_ok-parts.ensures
+    visitable_posts c.args.self.now (new_owner c.args.change.now) c.in_ok-parts.parts.items seats c.in_ok-parts.ensures
+
+pub returns-clause-contents : goal.returns-clause-contents
+returns-clause-contents c =
+    let seats = subst (λ (d : Desk). AllByRecursion IsSeated d.conns) c.self.view_is c.self.invariant.seats in
+    contentless_posts c.args.self.now (new_owner c.args.change.now) c.in_ok-parts.parts.items seats c.in_ok-parts.ensures

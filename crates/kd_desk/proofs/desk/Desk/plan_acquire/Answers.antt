@@ -1,11 +1,11 @@
 use Rattle.std.proofs.Common.{◌≡◌, ◌<◌, ap, sym, subst, ◌∙◌, [], length, ℕ, false}
 use Rattle.std.specs.Prelude.{is_some}
 use Rattle.kd_registry.specs.Claims.{owner_id}
-use Rattle.kd_desk.specs.State.{Desk}
-use Rattle.kd_desk.specs.Naming.{activator_in}
+use Rattle.kd_commands.specs.State.{Desk}
+use Rattle.kd_commands.specs.Names.{activator_in}
 use Rattle.kd_desk.specs.Drafts.{parts_with}
 use Rattle.kd_desk.specs.Owners.{moved, owner_by}
-use Rattle.kd_desk.specs.Plans.{notices}
+use Rattle.kd_commands.specs.Plans.{notices}
 use Rattle.kd_desk.specs.Runs.{acquire_answered}
 use Rattle.kd_desk.proofs.Refused.{refused_with}
 use Rattle.kd_desk.proofs.NamePlans.{acquire_fits, acquire_over, acquire_planned, acquire_refused}
@@ -28,4 +28,5 @@ returns c =
       rw (c.new.ensures.items, c.is_queued.ensures) (acquire_planned d c.args.conn.now c.args.flags n v c.in_ok-parts.parts.items c.in_ok-verdict.ensures none told),
       acquire_fits d c.args.conn.now c.args.flags n v c.in_ok-verdict.ensures room,
       c.in_ok-parts.ensures.visitable,
+      rw c.new.ensures.items c.in_ok-parts.ensures.contents,
     )

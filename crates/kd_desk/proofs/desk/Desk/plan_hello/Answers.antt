@@ -1,16 +1,15 @@
 -- The parts are those of the plan that is asked for.
 use Rattle.std.proofs.Common.{◌≡◌, ◌<◌, ◌∙◌, ℕ, sym, ap, subst, refl, length, List, [], ◌∷◌, ◌++◌, Some, arith}
 use Rattle.std.specs.List.{AllByRecursion}
-use Rattle.kd_pool.specs.State.{raise}
-use Rattle.kd_desk.specs.Audience.{id_add}
-use Rattle.kd_desk.specs.State.{Desk}
+use Rattle.kd_acts.specs.State.{raise}
+use Rattle.kd_commands.specs.Audience.{id_add}
+use Rattle.kd_commands.specs.State.{Desk}
 use Rattle.kd_desk.specs.Drafts.{Fits, parts_with}
-use Rattle.kd_desk.specs.Hello.{free_seat}
-use Rattle.kd_desk.specs.Plans.{posts}
+use Rattle.kd_commands.specs.Hello.{free_seat}
+use Rattle.kd_commands.specs.Plans.{posts, Part}
 use Rattle.kd_desk.specs.Room.{IsSeated}
-use Rattle.kd_desk.specs.Send.{Part}
-use Rattle.kd_desk.proofs.Arrivals.{hello_planned, hello_refused, hello_visits}
-use Rattle.kd_desk.proofs.Seats.{free_below}
+use Rattle.kd_desk.proofs.Arrivals.{hello_contents, hello_planned, hello_refused, hello_visits}
+use Rattle.kd_commands.proofs.Seats.{free_below}
 use Rattle.kd_desk.proofs.desk.Desk.plan_hello.Goals as goal
 
 pub returns-in_default : goal.returns-in_default
@@ -32,4 +31,5 @@ returns c =
       rw (c.newcomer.ensures, id, size, hashes) (hello_planned d c.args.creds.now c.args.size seat c.tell.new.parts.items c.new.result.items free c.new.ensures.items parts),
       rw (c.newcomer.ensures) (room, free_below d seat free, omega (arith, c.requires.ids)),
       hello_visits d c.args.size seat c.tell.new.parts.items seats (free_below d seat free) c.requires.eights parts,
+      hello_contents d c.args.size seat c.tell.new.parts.items c.new.result.items c.new.ensures.items seats (free_below d seat free) c.requires.eights parts,
     )

@@ -1,9 +1,9 @@
 use Rattle.std.proofs.Common.{◌≡◌, ap, ◌∙◌, [], ℕ}
 use Rattle.kd_registry.specs.Claims.{owner_id}
-use Rattle.kd_desk.specs.Naming.{name_release}
+use Rattle.kd_commands.specs.Names.{name_release}
 use Rattle.kd_desk.specs.Drafts.{parts_with}
 use Rattle.kd_desk.specs.Owners.{moved}
-use Rattle.kd_desk.specs.Plans.{notices}
+use Rattle.kd_commands.specs.Plans.{notices}
 use Rattle.kd_desk.proofs.Refused.{refused_with}
 use Rattle.kd_desk.proofs.NamePlans.{release_fits, release_planned, release_refused}
 use Rattle.kd_desk.proofs.desk.Desk.plan_release.Goals as goal
@@ -18,4 +18,5 @@ returns c =
       rw c.new.ensures.items (release_planned d c.args.conn.now c.args.name c.in_ok-new.new c.in_ok-parts.parts.items c.in_ok-new.ensures.judged told),
       release_fits d c.args.conn.now.id c.args.name c.in_ok-new.new c.in_ok-new.ensures.answer,
       c.in_ok-parts.ensures.visitable,
+      rw c.new.ensures.items c.in_ok-parts.ensures.contents,
     )

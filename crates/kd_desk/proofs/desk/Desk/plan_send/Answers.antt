@@ -3,10 +3,10 @@ use Rattle.kd_types.specs.Flags.{has_bits}
 use Rattle.kd_image.specs.Images.{image_length}
 use Rattle.kd_image.specs.declared.message.Message.{Message}
 use Rattle.kd_image.specs.Said.{nothing_attached}
-use Rattle.kd_desk.specs.Send.{plain_length}
-use Rattle.kd_desk.specs.Sending.{offered}
-use Rattle.kd_desk.specs.State.{monitors}
-use Rattle.kd_desk.specs.Step.{send}
+use Rattle.kd_commands.specs.Messages.{plain_length}
+use Rattle.kd_desk.specs.Sending.{plain_offer}
+use Rattle.kd_commands.specs.State.{monitors}
+use Rattle.kd_commands.specs.Send.{send}
 use Rattle.kd_desk.proofs.Planned.{misused, too_long, refused, refuses_on, planned}
 use Rattle.kd_desk.proofs.desk.Desk.plan_send.Goals as goal
 
@@ -43,8 +43,9 @@ returns c =
     c.in_ok-route.ensures.judged
     c.in_ok-route.ensures.reached
     (sym c.is_reply-is_reply.ensures)
-    (c.into_plan.ensures.parts ∙ c.in_ok-offers.ensures.ok ∙ ap (λ (g : Message). offered d s g r.id true r ∷ map (offered d s g r.id false) (monitors d)) c.in_ok-message.ensures)
+    (c.into_plan.ensures.parts ∙ c.in_ok-offers.ensures.ok ∙ ap (λ (g : Message). plain_offer d s g r.id true r ∷ map (plain_offer d s g r.id false) (monitors d)) c.in_ok-message.ensures)
     c.into_plan.ensures.visitable
+    c.into_plan.ensures.contents
     c.into_plan.ensures.reply
     (c.into_plan.ensures.change ∙ c.change_of-change.ensures)
     c.into_plan.ensures.after

@@ -2,9 +2,9 @@
 use Rattle.std.proofs.Common.{◌≡◌, ◌≤◌, List, length, map, ap, sym, ◌∙◌, arith}
 use Rattle.std.proofs.lemmas.List.{take_all}
 use Rattle.kd_model.specs.Words.{those}
-use Rattle.kd_desk.specs.declared.conn.Conn.{Conn}
-use Rattle.kd_desk.specs.News.{still_told, subject_of, telling_of}
-use Rattle.kd_desk.specs.Plans.{posted}
+use Rattle.kd_commands.specs.declared.conn.Conn.{Conn}
+use Rattle.kd_desk.specs.News.{still_told, news_subject, telling_of}
+use Rattle.kd_commands.specs.Plans.{posted}
 use Rattle.kd_desk.proofs.Telling.{posts_without}
 use Rattle.kd_desk.proofs.desk.Desk.posts.Goals as goal
 
@@ -13,4 +13,4 @@ returns c =
     let cs : List Conn = c.args.self.now.conns in
     let same : c.deref-conn-items.result.now ≡ cs = c.deref-conn-items.ensures.value ∙ ap (λ d. d.conns) c.self.view_is in
     let far : length cs ≤ c.receivers.conn-index = omega (arith, ap length same, c.receivers-test.false) in
-    c.receivers.invariant ∙ ap (λ xs. map (posted (telling_of c.args.news.now)) (those (still_told c.args.leaver c.args.self.now (subject_of c.args.news.now)) xs)) (take_all c.receivers.conn-index cs far) ∙ sym (posts_without c.args.leaver c.args.self.now c.args.news.now)
+    c.receivers.invariant ∙ ap (λ xs. map (posted (telling_of c.args.news.now)) (those (still_told c.args.leaver c.args.self.now (news_subject c.args.news.now)) xs)) (take_all c.receivers.conn-index cs far) ∙ sym (posts_without c.args.leaver c.args.self.now c.args.news.now)

@@ -1,9 +1,9 @@
 use Rattle.std.proofs.Common.{◌≡◌, [], ◌∷◌, ◌++◌, map, take}
 use Rattle.kd_replies.specs.declared.request.Request.{Request}
-use Rattle.kd_desk.specs.Audience.{reply_dead}
+use Rattle.kd_commands.specs.Audience.{reply_dead}
 use Rattle.kd_desk.specs.Drafts.{parts_with}
-use Rattle.kd_desk.specs.Leaving.{without_conns}
-use Rattle.kd_desk.specs.Plans.{notices}
+use Rattle.kd_commands.specs.Leaving.{without_conns}
+use Rattle.kd_commands.specs.Plans.{notices}
 use Rattle.kd_desk.proofs.desk.Desk.tell_dead.Given as goal
 
 abbrev pub invariant-dead : goal.invariant-dead

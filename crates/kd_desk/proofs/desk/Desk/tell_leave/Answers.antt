@@ -1,10 +1,9 @@
 -- Notice by notice, and a monitor leaves unnoticed.
 use Rattle.std.proofs.Common.{◌≡◌, ◌∙◌, sym, ap, List, [], ◌∷◌, ◌++◌}
-use Rattle.kd_desk.specs.State.{Desk, is_monitor}
+use Rattle.kd_commands.specs.State.{Desk, is_monitor}
 use Rattle.kd_desk.specs.Drafts.{parts_with}
-use Rattle.kd_desk.specs.Leaving.{without_conns}
-use Rattle.kd_desk.specs.Plans.{notices}
-use Rattle.kd_desk.specs.Send.{Part}
+use Rattle.kd_commands.specs.Leaving.{without_conns}
+use Rattle.kd_commands.specs.Plans.{notices, Part}
 use Rattle.kd_desk.proofs.Leaves.{monitor_told, not_monitor, other_told, owners_gone, repliers_gone}
 use Rattle.kd_desk.proofs.desk.Desk.tell_leave.Goals as goal
 

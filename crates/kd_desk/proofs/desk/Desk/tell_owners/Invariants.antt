@@ -1,8 +1,8 @@
 use Rattle.std.proofs.Common.{◌≡◌, [], ◌∷◌, ◌++◌, map}
-use Rattle.kd_desk.specs.Audience.{new_owner}
+use Rattle.kd_commands.specs.Audience.{new_owner}
 use Rattle.kd_desk.specs.Drafts.{parts_with}
-use Rattle.kd_desk.specs.Leaving.{without_conns}
-use Rattle.kd_desk.specs.Plans.{notices}
+use Rattle.kd_commands.specs.Leaving.{without_conns}
+use Rattle.kd_commands.specs.Plans.{notices}
 use Rattle.kd_desk.proofs.desk.Desk.tell_owners.Given as goal
 
 abbrev pub invariant-changes : goal.invariant-changes

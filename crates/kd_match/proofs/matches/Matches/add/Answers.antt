@@ -1,6 +1,6 @@
 -- The table with one rule more.
 use Rattle.std.proofs.Common.{◌∙◌, sym, ap, arith}
-use Rattle.kd_match.specs.Rules.{Table, IsTable, fits, kept}
+use Rattle.kd_match.specs.Rules.{Table, IsTable, mask_fits, rules_left}
 use Rattle.kd_match.specs.declared.rule.Rule.{Rule}
 use Rattle.kd_model.specs.Words.{all_of}
 use Rattle.kd_match.proofs.Kept.{table_kept, taken_fits, all_put}
@@ -19,4 +19,4 @@ invariant_of-self c =
     let room = c.self.invariant.2 in
     let more = c.remove_replaced.ensures.room in
     let most = c.insert.ensures.room in
-    (record { in_order = c.insert.ensures.order; sized = rw (c.insert.ensures.items, c.remove_replaced.ensures.items) (all_put (λ (r : Rule). all_of (fits c.self.inside.size) r.conditions) (record { id = c.args.id; cookie = c.args.cookie; conditions = c.of-conditions.result }) (kept c.self.inside.rules.items c.args.id c.args.cookie c.args.replace) (rw (size, c.of-conditions.ensures) fit) t.sized) }, c.self.invariant.1, omega arith)
+    (record { in_order = c.insert.ensures.order; sized = rw (c.insert.ensures.items, c.remove_replaced.ensures.items) (all_put (λ (r : Rule). all_of (mask_fits c.self.inside.size) r.conditions) (record { id = c.args.id; cookie = c.args.cookie; conditions = c.of-conditions.result }) (rules_left c.self.inside.rules.items c.args.id c.args.cookie c.args.replace) (rw (size, c.of-conditions.ensures) fit) t.sized) }, c.self.invariant.1, omega arith)

@@ -3,7 +3,7 @@ use Rattle.kd_types.specs.Words.{those}
 use Rattle.kd_policy.specs.Level.{is_for}
 use Rattle.kd_policy.specs.Policy.{Held, is_in, part_of}
 use Rattle.kd_policy.specs.Granted.{and_these, and_among}
-use Rattle.kd_policy.specs.Marks.{has_mark, mark_of}
+use Rattle.kd_policy.specs.Marks.{mark_is_set, mark_of}
 use Rattle.kd_policy.proofs.Marking.{unmarked}
 use Rattle.kd_policy.proofs.Granting.{none_found, part_in, part_out}
 use Rattle.kd_policy.proofs.holding.Holding.grant.Goals as goal
@@ -20,7 +20,7 @@ returns-then-not-has-2 c =
     let text = c.args.front.now ++ c.args.back.now in
     let inside : is_in c.args.scope c.args.self.now.owner ≡ true = ap (λ (h : Held). is_in c.args.scope h.owner) (sym c.self.view_is) ∙ sym c.if-not-has.ensures in
     let whole : part_of c.args.scope c.args.self.now ≡ c.self.inside.entries.items = part_in c.args.scope c.args.self.now inside ∙ ap (λ (h : Held). h.entries) (sym c.self.view_is) in
-    let unset : has_mark c.self.inside.marks.words (mark_of text) ≡ false = ap (has_mark c.self.inside.marks.words) (sym c.requires.marked) ∙ sym c.if-not-has-2.ensures in
+    let unset : mark_is_set c.self.inside.marks.words (mark_of text) ≡ false = ap (mark_is_set c.self.inside.marks.words) (sym c.requires.marked) ∙ sym c.if-not-has-2.ensures in
     let none : those (is_for text) (part_of c.args.scope c.args.self.now) ≡ [] = ap (those (is_for text)) whole ∙ unmarked c.self.inside.marks.words text c.self.inside.entries.items c.self.invariant.1 unset in
     none_found c.args.found text c.args.uid c.args.gid ∙ ap (λ es. and_these c.args.found es c.args.uid c.args.gid) (sym none)
 

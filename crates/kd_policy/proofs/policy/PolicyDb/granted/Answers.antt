@@ -1,10 +1,10 @@
 use Rattle.std.proofs.Common.{◌++◌, ◌∙◌}
-use Rattle.kd_policy.specs.Granted.{nothing}
+use Rattle.kd_policy.specs.Granted.{nothing_granted}
 use Rattle.kd_policy.proofs.Granting.{none_found, holding_more}
 use Rattle.kd_policy.proofs.policy.PolicyDb.granted.Goals as goal
 
 pub holdings-init : goal.holdings-init
-holdings-init c = none_found nothing (c.args.front.now ++ c.args.back.now) c.args.uid c.args.gid
+holdings-init c = none_found nothing_granted (c.args.front.now ++ c.args.back.now) c.args.uid c.args.gid
 
 pub holdings-preserved : goal.holdings-preserved
 holdings-preserved c =

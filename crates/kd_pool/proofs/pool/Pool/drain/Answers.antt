@@ -3,13 +3,14 @@ use Rattle.std.specs.Prelude.{◌≡◌, ℕ, None, Some, List, length, map, vec
 use Rattle.std.proofs.Common.{ap, sym, ◌∙◌}
 use Rattle.kd_model.specs.Words.{least, those}
 use Rattle.kd_types.specs.declared.refusal.Refusal.TheVariants.{Busy}
+use Rattle.kd_acts.proofs.Apart.{each_found}
 use Rattle.kd_pool.proofs.Drains.{drains, images_shown}
-use Rattle.kd_pool.proofs.Kept.{all_carried, few_slots}
+use Rattle.kd_pool.proofs.Kept.{all_carried, few_slots, kept_apart}
 use Rattle.kd_pool.proofs.Views.{slots_shown}
-use Rattle.kd_pool.specs.State.{Answer, Batch, Pool, drained, is_reserved, refused, slots}
-use Rattle.kd_pool.specs.Steps.{of_lower_number}
-use Rattle.kd_pool.specs.Table.{arrivals, carried, shown}
-use Rattle.kd_pool.specs.declared.slot.Slot.{Slot}
+use Rattle.kd_acts.specs.State.{Answer, Batch, Pool, drained, is_reserved, queue_of, refused, slots, waiting_slots}
+use Rattle.kd_acts.specs.Steps.{of_lower_number}
+use Rattle.kd_pool.specs.Table.{carried, slice_shown}
+use Rattle.kd_acts.specs.declared.slot.Slot.{Slot}
 use Rattle.kd_pool.proofs.pool.Pool.drain.Goals as goal
 
 abbrev first : Pool × Answer → Pool
@@ -25,10 +26,12 @@ take_over-requires c =
     let ss = c.self.inside.slots.items in
     let room = vec_capacity c.self.inside.slots in
     record {
-      size = ap length c.deref-2.ensures.value ∙ c.self.invariant.whole ∙ ap (λ (p : Pool). p.size) c.self.view_is ∙ sym c.requires.size;
+      size = ap length c.deref-2.ensures.value ∙ c.self.invariant.kept.whole ∙ ap (λ (p : Pool). p.size) c.self.view_is ∙ sym c.requires.size;
       empty = c.requires.empty;
-      few = rw c.deref-3.ensures.value (few_slots m b ss room c.self.invariant);
-      each = rw (c.deref-2.ensures.value, c.deref-3.ensures.value) (all_carried m b ss room c.self.invariant);
+      few = rw c.deref-3.ensures.value (few_slots m b ss room c.self.invariant.kept);
+      each = rw (c.deref-2.ensures.value, c.deref-3.ensures.value) (all_carried m b ss room c.self.invariant.kept);
+      found = rw c.deref-3.ensures.value (each_found ss (kept_apart m b ss room c.self.invariant.kept));
+      queued = c.entries.ensures ∙ c.self.invariant.queued.order ∙ ap queue_of (sym c.deref-3.ensures.value);
     }
 
 pub returns-in-Some-clause-state : goal.returns-in-Some-clause-state
@@ -59,6 +62,6 @@ returns-clause-answer c =
     let ss = c.self.inside.slots.items in
     let table : slots c.args.self.now ≡ ss = sym (ap slots c.self.view_is) ∙ slots_shown m ss in
     let none : least of_lower_number (those is_reserved ss) ≡ None = rw (← c.deref.ensures.value) (sym c.lowest_reserved.ensures ∙ c.in_default.is) in
-    let P : List ℕ → List Slot → Answer = λ m ss. drained (map (carried m) (arrivals ss)) in
-    let same : c.args.self.now.slices ≡ map (shown m) ss = sym (ap (λ (p : Pool). p.slices) c.self.view_is) in
+    let P : List ℕ → List Slot → Answer = λ m ss. drained (map (carried m) (waiting_slots ss)) in
+    let same : c.args.self.now.slices ≡ map (slice_shown m) ss = sym (ap (λ (p : Pool). p.slices) c.self.view_is) in
     ap (λ (b : Batch). drained b.images) c.take_over.ensures ∙ ap (λ x. P x c.deref-3.result.now) c.deref-2.ensures.value ∙ ap (P m) c.deref-3.ensures.value ∙ ap drained (images_shown m ss c.args.self.now same) ∙ sym (ap second (drains c.args.self.now ss None table none))

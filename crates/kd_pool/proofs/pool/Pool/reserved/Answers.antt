@@ -3,11 +3,11 @@ use Rattle.std.specs.Prelude.{refl}
 use Rattle.std.proofs.Common.{ap, sym, ◌∙◌}
 use Rattle.kd_model.specs.Words.{first}
 use Rattle.kd_pool.proofs.Views.{reserved_seen, slots_shown}
-use Rattle.kd_pool.specs.State.{has_number}
-use Rattle.kd_pool.specs.Steps.{length_reserved}
+use Rattle.kd_acts.specs.State.{slot_numbered}
+use Rattle.kd_acts.specs.Steps.{length_reserved}
 use Rattle.kd_pool.proofs.pool.Pool.reserved.Goals as goal
 
 pub returns : goal.returns
 returns c =
     let ss = c.self.inside.slots.items in
-    rw (← c.self.view_is) (c.reserved_length.ensures ∙ ap (λ xs. length_reserved (first (has_number c.args.number) xs)) c.deref.ensures.value ∙ sym (reserved_seen _ ss c.args.number _ (slots_shown c.self.inside.memory.items ss) refl))
+    rw (← c.self.view_is) (c.reserved_length.ensures ∙ ap (λ xs. length_reserved (first (slot_numbered c.args.number) xs)) c.deref.ensures.value ∙ sym (reserved_seen _ ss c.args.number _ (slots_shown c.self.inside.memory.items ss) refl))

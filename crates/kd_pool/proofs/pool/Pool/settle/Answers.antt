@@ -1,6 +1,6 @@
 -- All messages of the buffer settle in the pool after its sweep.
 use Rattle.std.proofs.Common.{ap, sym, ◌∙◌}
-use Rattle.kd_pool.specs.Steps.{settled}
+use Rattle.kd_acts.specs.Steps.{settled}
 use Rattle.kd_pool.proofs.pool.Pool.settle.Goals as goal
 
 pub returns-clause-state : goal.returns-clause-state

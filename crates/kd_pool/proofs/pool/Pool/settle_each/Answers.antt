@@ -3,7 +3,7 @@ use Rattle.std.specs.Prelude.{length, map}
 use Rattle.std.proofs.Common.{ap, arith, sym, ◌∙◌}
 use Rattle.std.proofs.lemmas.List.{drop_all}
 use Rattle.kd_pool.proofs.Drains.{all_at, settles_on}
-use Rattle.kd_pool.specs.Steps.{settled}
+use Rattle.kd_acts.specs.Steps.{settled}
 use Rattle.kd_pool.specs.Table.{IsCarried, carried}
 use Rattle.kd_pool.proofs.pool.Pool.settle_each.Goals as goal
 

@@ -1,6 +1,7 @@
--- What is left settles in the pool so far as all do in the pool before, and each message counts at most once.
+-- What is left settles in the pool so far as all do in the pool before, and each message counts at
+-- most once.
 use Rattle.std.specs.Prelude.{◌≡◌, ◌≤◌, ◌+◌, drop, map}
-use Rattle.kd_pool.specs.Steps.{settled}
+use Rattle.kd_acts.specs.Steps.{settled}
 use Rattle.kd_pool.specs.Table.{carried}
 use Rattle.kd_pool.proofs.pool.Pool.settle_each.Given as goal
 

@@ -2,7 +2,7 @@
 use Rattle.std.specs.Prelude.{None}
 use Rattle.std.proofs.Common.{FitsSigned, ap, rules, w64, ◌∙◌}
 use Rattle.std.proofs.lemmas.Int.{to_z-of_z}
-use Rattle.kd_pool.specs.Steps.{fill_step}
+use Rattle.kd_acts.specs.Steps.{fill_step}
 use Rattle.kd_pool.proofs.pool.Pool.settle_one.Goals as goal
 
 pub returns-clause-state : goal.returns-clause-state

@@ -6,14 +6,14 @@ use Rattle.kd_model.specs.Slices.{unused_number}
 use Rattle.kd_pool.proofs.Kept.{book_shown, fewer_slots}
 use Rattle.kd_pool.proofs.Longs.{all_in_use, nothing_holds}
 use Rattle.kd_pool.proofs.Offers.{reserves_none, reserves_nowhere}
-use Rattle.kd_pool.specs.State.{book_of, placed_of}
+use Rattle.kd_acts.specs.State.{book_of, placed_of}
 use Rattle.kd_pool.proofs.pool.Pool.why_too_long.Goals as goal
 
 pub returns-then-len : goal.returns-then-len
 returns-then-len c = λ len source user long.
     let b = c.self.inside.book in
     let ss = c.self.inside.slots.items in
-    let k = c.self.invariant in
+    let k = c.self.invariant.kept in
     let book : book_of c.args.self.now ≡ b = sym (ap book_of c.self.view_is) ∙ book_shown c.self.inside.memory.items b ss (vec_capacity c.self.inside.slots) c.self.inside.next_arrival c.self.inside.dropped c.self.inside.offered k in
     let unspent : unused_number b ≡ None → ⊥ = λ u. let many = all_in_use b u in omega (arith, many, ap length k.tied, length-map ss placed_of) in
     reserves_nowhere c.args.self.now b len source user book unspent (nothing_holds b len k.sound (omega (arith, k.fits, long)))
@@ -22,7 +22,7 @@ pub returns-else-len : goal.returns-else-len
 returns-else-len c = λ len source user long.
     let b = c.self.inside.book in
     let ss = c.self.inside.slots.items in
-    let k = c.self.invariant in
+    let k = c.self.invariant.kept in
     let room = vec_capacity c.self.inside.slots in
     let book : book_of c.args.self.now ≡ b = sym (ap book_of c.self.view_is) ∙ book_shown c.self.inside.memory.items b ss room c.self.inside.next_arrival c.self.inside.dropped c.self.inside.offered k in
     let used : (n : ℕ) → unused_number b ≡ Some n → ⊥ = λ n e. let fewer = fewer_slots c.self.inside.memory.items b ss room n k e in omega (arith, fewer) in

@@ -1,12 +1,12 @@
 use Rattle.std.proofs.Common.{◌+◌, ◌≡◌, ap, subst, arith, true}
 use Rattle.std.specs.Prelude.{is_ok}
-use Rattle.kd_registry.specs.Counts.{IsAt, IsGapFor, anyone, counted}
+use Rattle.kd_registry.specs.Counts.{IsAt, IsGapFor, anyone, claim_count}
 use Rattle.kd_registry.proofs.Finding.{rows_insert, rows_set}
 use Rattle.kd_registry.proofs.Counting.{few_rows}
 use Rattle.kd_registry.proofs.holdings.Holdings.add.Goals as goal
 
 pub unwrap-requires : goal.unwrap-requires
-unwrap-requires c = c.insert.ensures.succeeds (omega (arith, few_rows c.self.inside.rows.items c.self.invariant.0, ap (counted anyone) c.self.view_is, c.requires, c.self.invariant.1, c.self.inside.rows.ok.0))
+unwrap-requires c = c.insert.ensures.succeeds (omega (arith, few_rows c.self.inside.rows.items c.self.invariant.0, ap (claim_count anyone) c.self.view_is, c.requires, c.self.invariant.1, c.self.inside.rows.ok.0))
 
 pub invariant_of-self-in-Err : goal.invariant_of-self-in-Err
 invariant_of-self-in-Err c =

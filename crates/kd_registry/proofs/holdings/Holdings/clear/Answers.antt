@@ -1,5 +1,5 @@
 use Rattle.std.proofs.Common.{ap, subst, ◌∙◌, arith}
-use Rattle.kd_registry.specs.Counts.{IsAt, IsGapFor, but, counted}
+use Rattle.kd_registry.specs.Counts.{IsAt, IsGapFor, but, claim_count}
 use Rattle.kd_registry.proofs.Finding.{none_in_gap, rows_remove}
 use Rattle.kd_registry.proofs.Counting.{counted_cleared, none_less}
 use Rattle.kd_registry.proofs.holdings.Holdings.clear.Goals as goal
@@ -7,9 +7,9 @@ use Rattle.kd_registry.proofs.holdings.Holdings.clear.Goals as goal
 pub returns-in-Ok : goal.returns-in-Ok
 returns-in-Ok c chosen =
     let at = subst (λ z. IsAt z c.args.id c.in-Ok.place) c.deref.ensures.value c.in-Ok.ensures.found in
-    ap (counted chosen) c.remove.ensures.items
+    ap (claim_count chosen) c.remove.ensures.items
     ∙ counted_cleared c.self.inside.rows.items c.self.invariant.0 c.args.id c.in-Ok.place at chosen
-    ∙ ap (counted (but chosen c.args.id)) c.self.view_is
+    ∙ ap (claim_count (but chosen c.args.id)) c.self.view_is
 
 pub returns-in_default : goal.returns-in_default
 returns-in_default c chosen =

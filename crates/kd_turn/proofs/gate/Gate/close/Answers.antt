@@ -1,5 +1,5 @@
 use Rattle.std.proofs.Common.{ℕ, map, sym, ap, subst, ◌∙◌, arith}
-use Rattle.kd_hands.specs.World.{Fact}
+use Rattle.kd_hands.specs.Locks.{Fact}
 use Rattle.kd_turn.specs.Told.{Ended}
 use Rattle.kd_turn.proofs.Made.{full, ended}
 use Rattle.kd_turn.proofs.gate.Gate.close.Goals as goal

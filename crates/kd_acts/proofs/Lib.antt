@@ -1,0 +1,14 @@
+pub mod Added
+pub mod Apart
+pub mod Arrivals
+pub mod Arrived
+pub mod Cases
+pub mod Changes
+pub mod Handed
+pub mod Handing
+pub mod Lasting
+pub mod Publishing
+pub mod Receives
+pub mod Reserved
+pub mod Stays
+pub mod RowsPool

@@ -1,0 +1,14 @@
+pub mod Asides
+pub mod Callers
+pub mod Finds
+pub mod Gone
+pub mod Laid
+pub mod Members
+pub mod Moves
+pub mod Moving
+pub mod Opens
+pub mod Others
+pub mod Seating
+pub mod SeatSets
+pub mod Seats
+pub mod Staying

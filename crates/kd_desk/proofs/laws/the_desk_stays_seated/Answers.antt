@@ -1,6 +1,0 @@
--- By what a plan does to who sits where.
-use Rattle.kd_desk.proofs.Seating as seating
-use Rattle.kd_desk.proofs.laws.the_desk_stays_seated.Goals as goal
-
-pub returns : goal.returns
-returns c = seating.seating_stays

@@ -1,0 +1,6 @@
+pub mod Counting
+pub mod Stacks
+pub mod Ahead
+pub mod Below
+pub mod Firsts
+pub mod Kept

@@ -1,0 +1,88 @@
+//! What the holder of the desk placed becomes pending with its caller.
+
+ghost use Rattle.std.specs.Prelude.{◌≡◌, ◌<◌, ◌≤◌, ◌+◌, ◌∷◌, ◌++◌, List, drop, get_or, length, unwrap_or, vec_capacity, vec_len};
+ghost use Rattle.kd_desk.specs.Drafts.{content_at, empty_content, without_content};
+ghost use Rattle.kd_desk.specs.declared.part.Part as code;
+ghost use Rattle.kd_holds.specs.Placed.{IsSpent, all_kept, pending_kept, offer_placed};
+ghost use Rattle.kd_world.specs.State.{closed_pool};
+
+use crate::hold::Hold;
+use crate::pending::Pending;
+use kd_desk::{Content, Out, Part, Plan};
+use kd_types::{Seat, SliceNo};
+use std::alloc::Global;
+
+/// The seat of an offer that was placed, and the slice that was reserved there.
+fn reserved(part: &Part, out: &Out) -> Option<(Seat, SliceNo)>
+    ensures { result ≡ offer_placed part.now out.now }
+{
+    match part {
+        Part::Offer { seat, .. } => match out {
+            Out::Slice(number) => Some((*seat, *number)),
+            _ => None,
+        },
+        _ => None,
+    }
+}
+
+/// The generation of a seat's pool.
+fn generation_at(pools: &[Hold], seat: Seat) -> u64
+    ensures { result ≡ (get_or pools.now seat closed_pool).generation }
+{
+    match pools.get(seat.0 as usize) {
+        Some(hold) => hold.generation(),
+        None => 0,
+    }
+}
+
+/// The content of the offer at a place, moved out; an empty one where it was taken before.
+fn take_content(alloc: Global, plan: &mut Plan, index: usize) -> Content
+    ensures content { result ≡ unwrap_or (content_at index plan.old.contents) empty_content }
+    ensures plan { plan.new ≡ without_content index plan.old }
+{
+    match plan.content(index) {
+        Some(content) => content,
+        None => Content::empty(alloc),
+    }
+}
+
+/// What was placed for the part at this place becomes pending.
+fn keep(pendings: &mut Vec<Pending>, plan: &mut Plan, index: usize, out: &Out, pools: &[Hold])
+    requires room { vec_len pendings.old < vec_capacity pendings.old }
+    requires inside { index < length plan.old.parts }
+    ensures pendings { (p : code.Part) (rest : List code.Part)
+        → drop index plan.old.parts ≡ p ∷ rest
+        → pendings.new.items
+        ≡ pendings.old.items
+        ++ pending_kept pools.now (content_at index plan.old.contents) (offer_placed p out.now) }
+    ensures len { vec_len pendings.new ≤ vec_len pendings.old + 1 }
+    ensures room { vec_capacity pendings.old ≤ vec_capacity pendings.new }
+    ensures plan { plan.new ≡ without_content index plan.old }
+{
+    let placed = reserved(&plan.parts()[index], out);
+    let content = take_content(*pendings.allocator(), plan, index);
+    if let Some((seat, number)) = placed {
+        let generation = generation_at(pools, seat);
+        pendings
+            .push(Pending {
+                seat,
+                generation,
+                number,
+                content,
+            })
+            .unwrap();
+    }
+}
+
+/// What was placed for all parts that were visited becomes pending, in their order.
+pub fn keep_all(pendings: &mut Vec<Pending>, plan: &mut Plan, outs: &[Out], pools: &[Hold])
+    requires room { vec_len pendings.old + length outs.now ≤ vec_capacity pendings.old }
+    requires visited { length outs.now ≤ length plan.old.parts }
+    ensures pendings { pendings.new.items
+        ≡ pendings.old.items ++ all_kept pools.now plan.old.contents plan.old.parts outs.now }
+    ensures plan { IsSpent plan.old plan.new }
+{
+    'outs: for index in 0..outs.len() {
+        keep(pendings, plan, index, &outs[index], pools);
+    }
+}

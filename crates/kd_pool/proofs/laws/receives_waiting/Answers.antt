@@ -1,6 +1,0 @@
--- What a receive tells waited.
-use Rattle.kd_pool.proofs.Handed as law
-use Rattle.kd_pool.proofs.laws.receives_waiting.Goals as goal
-
-pub returns : goal.returns
-returns c = law.receives_waiting

@@ -1,6 +1,0 @@
--- Slices last.
-use Rattle.kd_pool.proofs.Stays as law
-use Rattle.kd_pool.proofs.laws.slices_last.Goals as goal
-
-pub returns : goal.returns
-returns c = law.slices_last
