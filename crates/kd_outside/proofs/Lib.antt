@@ -1,2 +1,4 @@
 pub mod Known
+pub mod Lending
 pub mod Least
+pub mod Splits

@@ -1,7 +1,7 @@
 //! The calls of an object in memory: which of them fail, and how many did.
 
 ghost use Rattle.std.specs.Prelude.{◌≡◌, ◌≤◌, []};
-ghost use Rattle.kd_outside.specs.Memory.{Calls as CallsValue, fails_next, called, failed};
+ghost use Rattle.kd_outside.specs.Memory.{Calls as CallsValue, no_calls, fails_next, with_call, with_fault};
 
 use std::marker::Model;
 
@@ -22,7 +22,7 @@ impl Model for Calls {
 impl Calls {
     /// No call yet; those of the given numbers will fail, counted from 1.
     pub(crate) fn of(fails: Vec<u64>) -> Calls
-        ensures { result ≡ record { fails = fails.items; made = 0; faults = 0 } }
+        ensures { result ≡ no_calls fails.items }
     {
         Calls {
             fails,
@@ -41,14 +41,14 @@ impl Calls {
 
     /// Counts a call that went well.
     pub(crate) fn count(&mut self)
-        ensures { self.new ≡ called self.old }
+        ensures { self.new ≡ with_call self.old }
     {
         self.made = self.made.saturating_add(1);
     }
 
     /// Counts a call that failed.
     pub(crate) fn count_fault(&mut self)
-        ensures value { self.new ≡ failed self.old }
+        ensures value { self.new ≡ with_fault self.old }
         ensures later { self.old.faults ≤ self.new.faults }
     {
         self.made = self.made.saturating_add(1);

@@ -5,13 +5,15 @@ ghost use Rattle.std.specs.declared.option.Option.TheVariants.{Some};
 ghost use Rattle.std.specs.Io.{WritesAtMost};
 ghost use Rattle.std.specs.Io.KnownBytes.{WriteAppends};
 ghost use Rattle.kd_outside.specs.Causes.{HasCause};
-ghost use Rattle.kd_outside.specs.Memory.{Shelf, refuses, write_of};
+ghost use Rattle.kd_outside.specs.Told.{no_side};
+ghost use Rattle.kd_outside.specs.Memory.{Shelf, new_shelf, room_of, refuses, after_write};
 
 use crate::calls::Calls;
 use crate::traits::{Failed, Sink};
 use std::marker::Model;
 
-/// Room for bytes that are written. A write takes what fits, and fails where nothing of its piece does.
+/// Room for bytes that are written. A write takes what fits, and fails where nothing of its piece
+/// does.
 #[derive(Debug, Drop)]
 pub struct MemSink {
     room: Vec<u8>,
@@ -22,7 +24,11 @@ pub struct MemSink {
 impl Model for MemSink {
     ghost Value = { Shelf };
 
-    ghost view = { λ s. record { held = take s.place s.room.items; size = vec_len s.room; calls = s.calls } };
+    ghost view = { λ s. record {
+      held = take s.place s.room.items;
+      size = vec_len s.room;
+      calls = s.calls;
+    } };
 
     ghost invariant = { λ s. s.place ≤ vec_len s.room };
 }
@@ -30,17 +36,18 @@ impl Model for MemSink {
 /// Writes a piece at a place where it fits.
 fn put_at(room: &mut Vec<u8>, place: usize, piece: &[u8])
     requires { place + length piece.now ≤ vec_len room.old }
-    ensures front { take (place + length piece.now) room.new.items ≡ take place room.old.items ++ piece.now }
+    ensures front { take (place + length piece.now) room.new.items
+        ≡ take place room.old.items ++ piece.now }
     ensures size { vec_len room.new ≡ vec_len room.old }
 {
     room[place..place + piece.len()].copy_from_slice(piece);
 }
 
 impl MemSink {
-    /// A sink that writes into `room` from its start, and whose calls of the numbers in `fails` fail, counted from 1. It
-    /// takes no memory.
+    /// A sink that writes into `room` from its start, and whose calls of the numbers in `fails`
+    /// fail, counted from 1. It takes no memory.
     pub fn make(room: Vec<u8>, fails: Vec<u64>) -> MemSink
-        ensures { result ≡ record { held = []; size = vec_len room; calls = record { fails = fails.items; made = 0; faults = 0 } } }
+        ensures { result ≡ new_shelf (vec_len room) fails.items }
     {
         MemSink {
             room,
@@ -72,15 +79,18 @@ impl Sink for MemSink {
 
     ghost faults = { λ s. s.calls.faults };
 
-    /// Takes as much of the piece as fits; fails at the calls that were named and where nothing fits, and at no other.
+    ghost beside = { λ _. no_side };
+
+    /// Takes as much of the piece as fits; fails at the calls that were named and where nothing
+    /// fits, and at no other.
     fn write(&mut self, piece: &[u8]) -> Result<usize, Failed>
         ensures bound { WritesAtMost result piece.now }
         ensures some { IfOk result (λ n. 0 < length piece.now → 0 < n) }
         ensures bytes { WriteAppends (Some self.old.held) (Some self.new.held) result piece.now }
         ensures cause { HasCause self.old.calls.faults self.new.calls.faults result }
         ensures failing { IsErr result ↔ IsTrue (refuses piece.now self.old) }
-        ensures count { IfOk result (λ n. n ≡ min (self.old.size - length self.old.held) (length piece.now)) }
-        ensures after { self.new ≡ write_of piece.now self.old }
+        ensures count { IfOk result (λ n. n ≡ min (room_of self.old) (length piece.now)) }
+        ensures after { self.new ≡ after_write piece.now self.old }
     {
         if self.refuses(piece) {
             self.calls.count_fault();

@@ -1,13 +1,15 @@
-//! The standard streams: the edge that is trusted. They tell nothing of content, and count each error.
+//! The standard streams: the edge that is trusted. They tell nothing of content, and count each
+//! error.
 
-ghost use Rattle.std.specs.Prelude.{◌≡◌, ◌≤◌, ℕ, IfOk, vec_len, vec_capacity};
+ghost use Rattle.std.specs.Prelude.{◌≡◌, ℕ, IfOk};
 ghost use Rattle.std.specs.declared.option.Option.TheVariants.{None};
 ghost use Rattle.kd_outside.specs.Causes.{HasCause};
-ghost use Rattle.kd_outside.specs.declared.streams.TheConstants.{GATHERED};
+ghost use Rattle.kd_outside.specs.Told.{no_side};
 
+use crate::gathered::Gathered;
 use crate::traits::{Failed, Sink, Source};
 use std::alloc::{AllocError, Global};
-use std::io::{Read, Stdin, Stdout, Write};
+use std::io::{Read, Stdin, Stdout};
 use std::marker::Model;
 
 /// The standard input. A contract sees how often it has failed.
@@ -37,6 +39,8 @@ impl Source for StdSource {
 
     ghost faults = { λ s. s };
 
+    ghost beside = { λ _. no_side };
+
     fn read(&mut self, into: &mut [u8]) -> Result<usize, Failed> {
         match self.inner.read(into) {
             Ok(count) => Ok(count),
@@ -48,14 +52,11 @@ impl Source for StdSource {
     }
 }
 
-/// How many bytes the standard output gathers before it hands them on: as much as a pipe holds.
-const GATHERED: usize = 65_536;
-
 /// The standard output, which gathers small writes. A contract sees how often it has failed.
 #[derive(Drop)]
 pub struct StdSink {
     inner: Stdout,
-    gathered: Vec<u8>,
+    gathered: Gathered,
     faults: u64,
 }
 
@@ -63,8 +64,6 @@ impl Model for StdSink {
     ghost Value = { ℕ };
 
     ghost view = { λ s. s.faults };
-
-    ghost invariant = { λ s. (vec_len s.gathered ≤ GATHERED) × (GATHERED ≤ vec_capacity s.gathered) };
 }
 
 impl StdSink {
@@ -74,7 +73,7 @@ impl StdSink {
     {
         Ok(StdSink {
             inner,
-            gathered: Vec::with_capacity(alloc, GATHERED)?,
+            gathered: Gathered::make(alloc)?,
             faults: 0,
         })
     }
@@ -83,23 +82,8 @@ impl StdSink {
     pub fn finish(&mut self) -> Result<(), Failed>
         ensures cause { HasCause self.old self.new result }
     {
-        hand_on(&mut self.inner, &mut self.gathered, &mut self.faults)
+        self.gathered.hand_on(&mut self.inner, &mut self.faults)
     }
-}
-
-/// Writes what was gathered and forgets it.
-fn hand_on(inner: &mut Stdout, gathered: &mut Vec<u8>, faults: &mut u64) -> Result<(), Failed>
-    ensures empty { vec_len gathered.new ≡ 0 }
-    ensures room { vec_capacity gathered.new ≡ vec_capacity gathered.old }
-    ensures cause { HasCause faults.old faults.new result }
-{
-    let written = inner.write_all(gathered);
-    gathered.clear();
-    if written.is_err() {
-        *faults = faults.saturating_add(1);
-        return Err(Failed);
-    }
-    Ok(())
 }
 
 impl Sink for StdSink {
@@ -107,15 +91,11 @@ impl Sink for StdSink {
 
     ghost faults = { λ s. s };
 
+    ghost beside = { λ _. no_side };
+
     /// Gathers the piece, or as much of it as is gathered at once.
     fn write(&mut self, piece: &[u8]) -> Result<usize, Failed> {
-        if piece.len() > GATHERED - self.gathered.len() {
-            hand_on(&mut self.inner, &mut self.gathered, &mut self.faults)?;
-        }
-        let count = piece.len().min(GATHERED);
         self.gathered
-            .extend_from_slice(piece.split_at(count).0)
-            .unwrap();
-        Ok(count)
+            .write(&mut self.inner, &mut self.faults, piece)
     }
 }

@@ -5,7 +5,8 @@ ghost use Rattle.std.specs.declared.option.Option.TheVariants.{Some};
 ghost use Rattle.std.specs.Io.{ReadsAtMost};
 ghost use Rattle.std.specs.Io.KnownBytes.{ReadConsumes};
 ghost use Rattle.kd_outside.specs.Causes.{HasCause};
-ghost use Rattle.kd_outside.specs.Memory.{Tape, unread, least_of, fails_next, piece_length, read_into};
+ghost use Rattle.kd_outside.specs.Told.{no_side};
+ghost use Rattle.kd_outside.specs.Memory.{Tape, unread_bytes, new_tape, least_of, fails_next, piece_length, after_read};
 
 use crate::calls::Calls;
 use crate::traits::{Failed, Source};
@@ -23,15 +24,21 @@ pub struct MemSource {
 impl Model for MemSource {
     ghost Value = { Tape };
 
-    ghost view = { λ s. record { content = s.content.items; cuts = s.cuts.items; place = s.place; calls = s.calls } };
+    ghost view = { λ s. record {
+      content = s.content.items;
+      cuts = s.cuts.items;
+      place = s.place;
+      calls = s.calls;
+    } };
 
     ghost invariant = { λ s. s.place ≤ vec_len s.content };
 }
 
 impl MemSource {
-    /// A source of these bytes, whose calls of the numbers in `fails` fail, counted from 1. It takes no memory.
+    /// A source of these bytes, whose calls of the numbers in `fails` fail, counted from 1. It
+    /// takes no memory.
     pub fn make(bytes: Vec<u8>, cuts: Vec<usize>, fails: Vec<u64>) -> MemSource
-        ensures { result ≡ record { content = bytes.items; cuts = cuts.items; place = 0; calls = record { fails = fails.items; made = 0; faults = 0 } } }
+        ensures { result ≡ new_tape bytes.items cuts.items fails.items }
     {
         MemSource {
             content: bytes,
@@ -59,18 +66,22 @@ fn cut_above(cuts: &[usize], place: usize, end: usize) -> usize
 }
 
 impl Source for MemSource {
-    ghost left = { λ s. Some (unread s) };
+    ghost left = { λ s. Some (unread_bytes s) };
 
     ghost faults = { λ s. s.calls.faults };
 
-    /// Reads the next piece, as much of it as there is room for; fails at the calls that were named, and at no other.
+    ghost beside = { λ _. no_side };
+
+    /// Reads the next piece, as much of it as there is room for; fails at the calls that were
+    /// named, and at no other.
     fn read(&mut self, into: &mut [u8]) -> Result<usize, Failed>
         ensures bound { ReadsAtMost result into.new }
-        ensures bytes { ReadConsumes (Some (unread self.old)) (Some (unread self.new)) result into.new }
+        ensures bytes { ReadConsumes (Some (unread_bytes self.old))
+            (Some (unread_bytes self.new)) result into.new }
         ensures cause { HasCause self.old.calls.faults self.new.calls.faults result }
         ensures failing { IsErr result ↔ IsTrue (fails_next self.old.calls) }
         ensures count { IfOk result (λ n. n ≡ piece_length self.old (length into.old)) }
-        ensures after { self.new ≡ read_into (length into.old) self.old }
+        ensures after { self.new ≡ after_read (length into.old) self.old }
     {
         if self.calls.fails_next() {
             self.calls.count_fault();

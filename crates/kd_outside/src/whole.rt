@@ -46,10 +46,14 @@ pub fn read_to_end<S: Source>(
     ensures taken { IfOk result (λ v. Consumes (S.left source.old) (S.left source.new) v.items) }
     ensures end { OnOk result (IsAtEnd (S.left source.new)) }
     ensures within { IfOk result (λ v. length v.items ≤ limit) }
-    ensures fault { IsErrOf result InputError.Fault → Rose (S.faults source.old) (S.faults source.new) }
-    ensures too_much { IsErrOf result InputError.TooMuch → (bytes : List ℕ) × Consumes (S.left source.old) (S.left source.new) bytes × (length bytes ≡ limit + 1) }
+    ensures fault { IsErrOf result InputError.Fault
+        → Rose (S.faults source.old) (S.faults source.new) }
+    ensures too_much { IsErrOf result InputError.TooMuch
+        → (bytes : List ℕ) × Consumes (S.left source.old) (S.left source.new) bytes
+        × (length bytes ≡ limit + 1) }
     ensures kept { OnOk result (S.faults source.new ≡ S.faults source.old) }
     ensures later { S.faults source.old ≤ S.faults source.new }
+    ensures beside { S.beside source.new ≡ S.beside source.old }
 {
     let mut bytes = Vec::new(alloc);
     let mut buffer = [0u8; 16_384];
@@ -68,8 +72,10 @@ pub fn read_to_end<S: Source>(
 /// Writes all of a piece; a fault leaves a front of it written.
 pub fn write_whole<K: Sink>(sink: &mut K, piece: &[u8]) -> Result<(), Failed>
     ensures ok { OnOk result (Appends (K.held sink.old) (K.held sink.new) piece.now) }
-    ensures err { OnErr result ((n : ℕ) × Appends (K.held sink.old) (K.held sink.new) (take n piece.now)) }
+    ensures err { OnErr result
+        ((n : ℕ) × Appends (K.held sink.old) (K.held sink.new) (take n piece.now)) }
     ensures cause { HasCause (K.faults sink.old) (K.faults sink.new) result }
+    ensures beside { K.beside sink.new ≡ K.beside sink.old }
 {
     let mut rest = piece;
     'writing: while !rest.is_empty() {

@@ -12,4 +12,5 @@ writing-preserved g c =
       c.split_at.ensures.back ∙ ap (drop n) i.1 ∙ drop-drop n i.0 piece,
       appends_taken (g.K.Sink.held c.args.sink.now) (g.K.Sink.held c.writing.sink) (g.K.Sink.held c.write.new.self) i.0 n piece i.2 (rw (← i.1) c.in_ok-count.ensures.bytes),
       c.in_ok-count.ensures.cause.kept ∙ i.3,
+      c.in_ok-count.ensures.beside ∙ i.4,
     )
