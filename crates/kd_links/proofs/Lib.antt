@@ -1,0 +1,5 @@
+pub mod Writes
+pub mod Linked
+pub mod Rings
+pub mod Books
+pub mod Steps

@@ -1,0 +1,226 @@
+-- A ring stays one where a number is put behind another, or taken out.
+use Rattle.std.specs.Prelude.{◌≡◌, ◌≢◌, ◌<◌, ◌≤◌, ◌||◌, ℕ, Bool, true, false, not, List, [], ◌∷◌, Option, None, Some, length, map, nat_eq, cond, refl, replicate, slice_index}
+use Rattle.std.specs.List.{AllByRecursion, IsDistinct}
+use Rattle.std.proofs.Common.{ap, arith, eqb, set, sym, ◌∙◌, subst, suc, zero}
+use Rattle.std.proofs.lemmas.Bool.{true≢false}
+use Rattle.std.proofs.lemmas.Bool.Decides.{nat_tests}
+use Rattle.std.proofs.lemmas.List.{get_or-replicate, get_or-set_same, get_or-set_other, length-map, length-replicate, length-set}
+use Rattle.std.proofs.lemmas.Map.Steps.{length-le_from_distinct_below}
+use Rattle.kd_model.proofs.Lists.{all_follow, all_of_filter}
+use Rattle.kd_model.specs.Words.{contains}
+use Rattle.kd_links.specs.declared.node.Node.{Node}
+use Rattle.kd_links.specs.Chains.{AllBut, Apart, IsRing, Linked, behind, foremost, nexts, order, previouses, put_behind, spans}
+use Rattle.kd_links.proofs.Linked.{IsPut, IsTakenOut, all_but, back_of, equal, forth_of, next_holds, out_linked, previous_holds, put_linked, tested, walk_is, without}
+
+-- a number that is among some has what each of them has
+pub holds_in : (P : ℕ → Type 0) (n : ℕ) (xs : List ℕ) → AllByRecursion P xs → contains n xs ≡ true → P n
+holds_in P n [] a h = absurd (true≢false (sym h))
+holds_in P n (x ∷ xs) a h = go (holds_in P n xs a.1) (nat_eq n x) refl h
+  where
+    go : (contains n xs ≡ true → P n) → (t : Bool) → nat_eq n x ≡ t → (t || contains n xs) ≡ true → P n
+    go more true e h = subst P (sym (equal n x e)) a.0
+    go more false e h = more h
+
+distinct : (xs : List ℕ) → Apart xs → IsDistinct eqb xs
+unfolding IsDistinct
+distinct [] d = tt
+distinct (x ∷ xs) d = (all_follow (λ k. k ≢ x) (λ k. eqb x k ≡ false) xs (λ k h. tested x k (λ e. h (sym e))) d.0, distinct xs d.1)
+
+-- numbers that differ and are below another are at most as many
+few : (xs : List ℕ) (n : ℕ) → Apart xs → AllByRecursion (λ k. k < n) xs → length xs ≤ n
+few xs n d a = length-le_from_distinct_below xs n (distinct xs d) (λ q h. holds_in (λ k. k < n) q xs a h)
+
+-- numbers that are linked from the head on are its ring
+pub ring_of : (head : ℕ) (ns : List Node) (xs : List ℕ) → head < length ns → Linked (slice_index (nexts ns)) (slice_index (previouses ns)) head xs head → Apart (head ∷ xs) → AllByRecursion (λ k. k < length ns) xs → IsRing head ns × (order head (nexts ns) ≡ xs)
+unfolding order
+ring_of head ns xs inside linked apart below =
+    let most : length (head ∷ xs) ≤ length ns = few (head ∷ xs) (length ns) apart (inside, below) in
+    let fuel : length xs ≤ length (nexts ns) = omega (arith, length-map ns (λ (n : Node). n.next)) in
+    let same : order head (nexts ns) ≡ xs = walk_is (length (nexts ns)) (slice_index (nexts ns)) (slice_index (previouses ns)) head head xs linked apart.0 fuel in
+    (record { inside = inside; linked = rw same linked; apart = rw same apart; below = rw same below }, same)
+
+all_put : (P : ℕ → Type 0) (p n from : ℕ) (xs : List ℕ) → P n → AllByRecursion P xs → AllByRecursion P (put_behind p n from xs)
+all_put P p n from [] h a = go (nat_eq from p)
+  where
+    go : (t : Bool) → AllByRecursion P (elim t [ true ↦ n ∷ [] | false ↦ [] ])
+    go true = (h, tt)
+    go false = tt
+all_put P p n from (x ∷ xs) h a = go (all_put P p n x xs h a.1) (nat_eq from p)
+  where
+    go : AllByRecursion P (put_behind p n x xs) → (t : Bool) → AllByRecursion P (elim t [ true ↦ n ∷ x ∷ xs | false ↦ x ∷ put_behind p n x xs ])
+    go more true = (h, a)
+    go more false = (a.0, more)
+
+apart_put : (p n from : ℕ) (xs : List ℕ) → Apart (from ∷ xs) → AllBut n (from ∷ xs) → Apart (from ∷ put_behind p n from xs)
+apart_put p n from [] d b = (all_put (λ k. k ≢ from) p n from [] (λ e. b.0 (sym e)) tt, go (nat_eq from p))
+  where
+    go : (t : Bool) → Apart (elim t [ true ↦ n ∷ [] | false ↦ [] ])
+    go true = (tt, tt)
+    go false = tt
+apart_put p n from (x ∷ xs) d b =
+    (all_put (λ k. k ≢ from) p n from (x ∷ xs) (λ e. b.0 (sym e)) d.0, go (apart_put p n x xs d.1 b.1) (nat_eq from p))
+  where
+    go : Apart (x ∷ put_behind p n x xs) → (t : Bool) → Apart (elim t [ true ↦ n ∷ x ∷ xs | false ↦ x ∷ put_behind p n x xs ])
+    go more true = (b.1, d.1)
+    go more false = more
+
+apart_without : (n : ℕ) (xs : List ℕ) → Apart xs → Apart (without n xs)
+apart_without n [] d = tt
+apart_without n (x ∷ xs) d = go (apart_without n xs d.1) (nat_eq x n)
+  where
+    go : Apart (without n xs) → (t : Bool) → Apart (cond (not t) (x ∷ without n xs) (without n xs))
+    go more true = more
+    go more false = (all_of_filter (λ k. k ≢ x) _ xs d.0, more)
+
+is_put : (fs gs : List ℕ) (p n : ℕ) → p < length fs → n < length fs → slice_index fs p < length gs → n < length gs → n ≢ p → n ≢ slice_index fs p → slice_index gs (slice_index fs p) ≡ p → IsPut (slice_index fs) (slice_index gs) (slice_index (set (set fs n (slice_index fs p)) p n)) (slice_index (set (set gs n p) (slice_index fs p) n)) p n
+is_put fs gs p n a b c d ne nq back =
+    let q = slice_index fs p in
+    record {
+      fresh = ne;
+      back = back;
+      here = get_or-set_same (set fs n q) p n 0 (omega (arith, length-set fs n q));
+      next = get_or-set_other (set fs n q) p n n 0 ne ∙ get_or-set_same fs n q 0 b;
+      previous = get_or-set_other (set gs n p) q n n 0 nq ∙ get_or-set_same gs n p 0 d;
+      after = get_or-set_same (set gs n p) q n 0 (omega (arith, length-set gs n p));
+      others = λ k kp kn. get_or-set_other (set fs n q) p k n 0 kp ∙ get_or-set_other fs n k q 0 kn;
+      before = λ k kq kn. get_or-set_other (set gs n p) q k n 0 kq ∙ get_or-set_other gs n k p 0 kn;
+    }
+
+-- a ring with one number more
+pub put_ring : (head : ℕ) (ns ns' : List Node) (p n : ℕ) → IsRing head ns → contains p (head ∷ order head (nexts ns)) ≡ true → contains n (head ∷ order head (nexts ns)) ≡ false → n < length ns → nexts ns' ≡ set (set (nexts ns) n (slice_index (nexts ns) p)) p n → previouses ns' ≡ set (set (previouses ns) n p) (slice_index (nexts ns) p) n → IsRing head ns' × (order head (nexts ns') ≡ put_behind p n head (order head (nexts ns)))
+put_ring head ns ns' p n r at new inside en ep =
+    let fs = nexts ns in let gs = previouses ns in let xs = order head fs in
+    let f = slice_index fs in let g = slice_index gs in
+    let lf = length-map ns (λ (m : Node). m.next) in
+    let lg = length-map ns (λ (m : Node). m.previous) in
+    let apart : AllBut n (head ∷ xs) = all_but n (head ∷ xs) new in
+    let pin : p < length ns = holds_in (λ k. k < length ns) p (head ∷ xs) (r.inside, r.below) at in
+    let qin : f p < length ns = next_holds (λ k. k < length ns) f g p head xs head r.linked at r.below r.inside in
+    let qn : f p ≢ n = next_holds (λ k. k ≢ n) f g p head xs head r.linked at apart.1 apart.0 in
+    let pn : p ≢ n = holds_in (λ k. k ≢ n) p (head ∷ xs) apart at in
+    let w = is_put fs gs p n (omega arith) (omega arith) (omega arith) (omega arith) (λ e. pn (sym e)) (λ e. qn (sym e)) (back_of f g p head xs head r.linked at) in
+    let len : length ns' ≡ length ns =
+    sym (length-map ns' (λ (m : Node). m.next)) ∙ ap length en ∙ length-set (set fs n (f p)) p n ∙ length-set fs n (f p) ∙ lf in
+    let linked = put_linked f g (slice_index (set (set fs n (f p)) p n)) (slice_index (set (set gs n p) (f p) n)) p n head xs head w r.linked r.apart apart apart.0 in
+    ring_of head ns' (put_behind p n head xs) (rw len r.inside) (rw (en, ep) linked) (apart_put p n head xs r.apart apart) (rw len (all_put (λ k. k < length ns) p n head xs inside r.below))
+
+is_out : (fs gs : List ℕ) (n : ℕ) → slice_index gs n < length fs → slice_index fs n < length gs → slice_index fs (slice_index gs n) ≡ n → slice_index gs (slice_index fs n) ≡ n → IsTakenOut (slice_index fs) (slice_index gs) (slice_index (set fs (slice_index gs n) (slice_index fs n))) (slice_index (set gs (slice_index fs n) (slice_index gs n))) n
+is_out fs gs n a b forth back =
+    let p = slice_index gs n in let q = slice_index fs n in
+    record {
+      forth = forth;
+      back = back;
+      here = get_or-set_same fs p q 0 a;
+      after = get_or-set_same gs q p 0 b;
+      others = λ k kp kn. get_or-set_other fs p k q 0 kp;
+      before = λ k kq kn. get_or-set_other gs q k p 0 kq;
+    }
+
+-- a number of the ring is one of the head and those behind it
+pub later_in : (n head : ℕ) (xs : List ℕ) → contains n xs ≡ true → contains n (head ∷ xs) ≡ true
+later_in n head xs h = go (nat_eq n head)
+  where
+    go : (t : Bool) → (t || contains n xs) ≡ true
+    go true = refl
+    go false = h
+
+-- a ring without one of its numbers
+pub out_ring : (head : ℕ) (ns ns' : List Node) (n : ℕ) → IsRing head ns → contains n (order head (nexts ns)) ≡ true → nexts ns' ≡ set (nexts ns) (slice_index (previouses ns) n) (slice_index (nexts ns) n) → previouses ns' ≡ set (previouses ns) (slice_index (nexts ns) n) (slice_index (previouses ns) n) → IsRing head ns' × (order head (nexts ns') ≡ without n (order head (nexts ns)))
+out_ring head ns ns' n r at en ep =
+    let fs = nexts ns in let gs = previouses ns in let xs = order head fs in
+    let f = slice_index fs in let g = slice_index gs in
+    let lf = length-map ns (λ (m : Node). m.next) in
+    let lg = length-map ns (λ (m : Node). m.previous) in
+    let among = later_in n head xs at in
+    let pin : g n < length ns = previous_holds (λ k. k < length ns) f g n head xs head r.linked at r.below r.inside in
+    let qin : f n < length ns = next_holds (λ k. k < length ns) f g n head xs head r.linked among r.below r.inside in
+    let hn : head ≢ n = λ e. holds_in (λ k. k ≢ head) n xs r.apart.0 at (sym e) in
+    let w = is_out fs gs n (omega arith) (omega arith) (forth_of f g n head xs head r.linked at) (back_of f g n head xs head r.linked among) in
+    let len : length ns' ≡ length ns =
+    sym (length-map ns' (λ (m : Node). m.next)) ∙ ap length en ∙ length-set fs (g n) (f n) ∙ lf in
+    let linked = out_linked f g (slice_index (set fs (g n) (f n))) (slice_index (set gs (f n) (g n))) n head xs head w r.linked r.apart hn hn in
+    ring_of head ns' (without n xs) (rw len r.inside) (rw (en, ep) linked) (all_of_filter (λ k. k ≢ head) _ xs r.apart.0, apart_without n xs r.apart.1) (rw len (all_of_filter (λ k. k < length ns) _ xs r.below))
+
+-- what is among some numbers and isn't the first is among the others
+pub later : (p from : ℕ) (xs : List ℕ) → contains p (from ∷ xs) ≡ true → nat_eq from p ≡ false → contains p xs ≡ true
+later p from xs h e = let other : nat_eq p from ≡ false = grind (arith, nat_tests) in rw other at h
+
+-- a number, or none where it is the end
+abbrev pub unless : ℕ → ℕ → Option ℕ
+unless upto n = elim (nat_eq n upto) [ true ↦ None | false ↦ Some n ]
+
+-- the number behind another, none at the end
+pub front_is : (f g : ℕ → ℕ) (p from : ℕ) (xs : List ℕ) (upto : ℕ) → Linked f g from xs upto → contains p (from ∷ xs) ≡ true → AllBut upto xs → unless upto (f p) ≡ foremost (behind p from xs)
+front_is f g p from [] upto l h a = go (nat_eq from p) refl
+  where
+    go : (t : Bool) → nat_eq from p ≡ t → unless upto (f p) ≡ None
+    go true e =
+        let same : f p ≡ upto = ap f (sym (equal from p e)) ∙ l.0 in
+        let test : nat_eq (f p) upto ≡ true = grind (arith, nat_tests) in rw (test, unless) refl
+    go false e = absurd (true≢false (sym (later p from [] h e)))
+front_is f g p from (x ∷ xs) upto l h a = go (λ i. front_is f g p x xs upto l.2 i a.1) (nat_eq from p) refl
+  where
+    go : (contains p (x ∷ xs) ≡ true → unless upto (f p) ≡ foremost (behind p x xs)) → (t : Bool) → nat_eq from p ≡ t → unless upto (f p) ≡ foremost (elim t [ true ↦ x ∷ xs | false ↦ behind p x xs ])
+    go more true e =
+        let same : f p ≡ x = ap f (sym (equal from p e)) ∙ l.0 in
+        let test : nat_eq (f p) upto ≡ false = tested (f p) upto (λ s. a.0 (sym same ∙ s)) in rw (test, unless) (ap Some same)
+    go more false e = more (later p from (x ∷ xs) h e)
+
+pub behind_first : (y : ℕ) (ys : List ℕ) → behind y y ys ≡ ys
+behind_first y [] = refl
+behind_first y (z ∷ zs) = let e : nat_eq y y ≡ true = grind (arith, nat_tests) in rw (e, behind) refl
+
+-- a step behind a number: the next one is among them, and behind it stands the rest
+pub record IsStep (p from x : ℕ) (xs rest : List ℕ) : Type 0 where
+  pub among : contains x xs ≡ true
+  pub left : behind x from xs ≡ rest
+
+pub behind_step : (p from x : ℕ) (xs rest : List ℕ) → Apart (from ∷ xs) → behind p from xs ≡ x ∷ rest → IsStep p from x xs rest
+behind_step p from x [] rest d e = cc
+behind_step p from x (y ∷ ys) rest d e = go (behind_step p y x ys rest d.1) (nat_eq from p) e
+  where
+    later_here : (contains x (y ∷ ys) ≡ true) → behind x y ys ≡ rest → IsStep p from x (y ∷ ys) rest
+    later_here h b =
+        let apart : from ≢ x = λ s. holds_in (λ k. k ≢ from) x (y ∷ ys) d.0 h (sym s) in
+        let test : nat_eq from x ≡ false = tested from x apart in
+        record { among = h; left = rw (test, behind) b }
+
+    go : (behind p y ys ≡ x ∷ rest → IsStep p y x ys rest) → (t : Bool) → elim t [ true ↦ y ∷ ys | false ↦ behind p y ys ] ≡ x ∷ rest → IsStep p from x (y ∷ ys) rest
+    go more true h =
+        let same : y ≡ x = cc in
+        let left : ys ≡ rest = cc in
+        let test : nat_eq x y ≡ true = grind (arith, nat_tests) in
+        later_here (rw test refl) (ap (λ k. behind x k ys) same ∙ behind_first x ys ∙ left)
+    go more false h = let s = more h in later_here (later_in x y ys s.among) s.left
+
+-- where the numbers of a ring and those beside them lie
+pub ring_inside : (head : ℕ) (ns : List Node) (p : ℕ) → IsRing head ns → contains p (head ∷ order head (nexts ns)) ≡ true → p < length ns
+ring_inside head ns p r h = holds_in (λ k. k < length ns) p (head ∷ order head (nexts ns)) (r.inside, r.below) h
+
+pub next_inside : (head : ℕ) (ns : List Node) (p : ℕ) → IsRing head ns → contains p (head ∷ order head (nexts ns)) ≡ true → slice_index (nexts ns) p < length ns
+next_inside head ns p r h = next_holds (λ k. k < length ns) (slice_index (nexts ns)) (slice_index (previouses ns)) p head (order head (nexts ns)) head r.linked h r.below r.inside
+
+pub previous_inside : (head : ℕ) (ns : List Node) (p : ℕ) → IsRing head ns → contains p (order head (nexts ns)) ≡ true → slice_index (previouses ns) p < length ns
+previous_inside head ns p r h = previous_holds (λ k. k < length ns) (slice_index (nexts ns)) (slice_index (previouses ns)) p head (order head (nexts ns)) head r.linked h r.below r.inside
+
+-- a ring names the number behind each, none behind the last
+pub ring_front : (head : ℕ) (ns : List Node) (p : ℕ) → IsRing head ns → contains p (head ∷ order head (nexts ns)) ≡ true → unless head (slice_index (nexts ns) p) ≡ foremost (behind p head (order head (nexts ns)))
+ring_front head ns p r h = front_is (slice_index (nexts ns)) (slice_index (previouses ns)) p head (order head (nexts ns)) head r.linked h r.apart.0
+
+map_all : {X Y : Type 0} (f : X → Y) (n : ℕ) (x : X) → map f (replicate n x) ≡ replicate n (f x)
+map_all f zero x = refl
+map_all f (suc n) x = ap (f x ∷◌) (map_all f n x)
+
+-- nodes that all name the head make a ring of it alone, and have one span
+pub record IsMade (head n : ℕ) (m : Node) (ns : List Node) : Type 0 where
+  pub ring : IsRing head ns
+  pub none : order head (nexts ns) ≡ []
+  pub spans : spans ns ≡ replicate n m.span
+
+pub ring_made : (head n : ℕ) (m : Node) (ns : List Node) → head < n → m.next ≡ head → m.previous ≡ head → ns ≡ replicate n m → IsMade head n m ns
+ring_made head n m ns h next previous e =
+    let len : length ns ≡ n = ap length e ∙ length-replicate n m in
+    let f : slice_index (nexts ns) head ≡ head = ap (λ l. slice_index (nexts l) head) e ∙ ap (λ l. slice_index l head) (map_all (λ (k : Node). k.next) n m) ∙ get_or-replicate n head m.next 0 h ∙ next in
+    let g : slice_index (previouses ns) head ≡ head = ap (λ l. slice_index (previouses l) head) e ∙ ap (λ l. slice_index l head) (map_all (λ (k : Node). k.previous) n m) ∙ get_or-replicate n head m.previous 0 h ∙ previous in
+    let made = ring_of head ns [] (omega arith) (f, g) (tt, tt) tt in
+    record { ring = made.0; none = made.1; spans = ap spans e ∙ map_all (λ (k : Node). k.span) n m }

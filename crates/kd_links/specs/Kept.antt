@@ -1,0 +1,44 @@
+-- The book that a chain of slices is, and what is kept of it.
+use Rattle.std.specs.Prelude.{◌≡◌, ◌<◌, ◌+◌, ◌^◌, ℕ, true, false, List, ◌∷◌, map, length, slice_index_or}
+use Rattle.kd_model.specs.Slices.{Book, IsSound, slice_end, used}
+use Rattle.kd_model.specs.Words.{contains}
+use Rattle.kd_model.specs.declared.placed.Gap.{Gap}
+use Rattle.kd_model.specs.declared.placed.Placed.{Placed}
+use Rattle.kd_links.specs.Chains.{Chained, no_span}
+use Rattle.kd_links.specs.declared.gaps.Hole.{Hole}
+use Rattle.kd_links.specs.declared.node.Span.{Span}
+use Rattle.kd_links.specs.declared.node.TheConstants.{START}
+
+-- the slice of a number
+abbrev pub slice_of : List Span → ℕ → Placed
+slice_of spans n = let s = slice_index_or spans n no_span in
+    record { number = n; offset = s.offset; len = s.len }
+
+-- the slices in a chain, in its order
+abbrev pub slices_of : Chained → List Placed
+slices_of c = map (slice_of c.spans) c.order
+
+abbrev pub chain_book : ℕ → Chained → Book
+chain_book size c = record { size = size; slices = slices_of c }
+
+-- a number's span ends where a gap begins
+pub record IsBehind (c : Chained) (number : ℕ) (gap : Gap) : Type 0 where
+  pub among : contains number (START ∷ c.order) ≡ true
+  pub ends : slice_end (slice_of c.spans number) ≡ gap.start
+
+pub record IsKept (size : ℕ) (c : Chained) : Type 0 where
+  pub fits : size < 2 ^ 32
+  -- the slices in order are a sound book
+  pub sound : IsSound (chain_book size c)
+  -- each number has a span, and so has the start
+  pub count : length c.spans ≡ START + 1
+  -- what isn't in the order is no slice
+  pub unused : (n : ℕ) → contains n c.order ≡ false → slice_index_or c.spans n no_span ≡ no_span
+
+-- a chain of slices, and how many bytes they take
+pub record IsLinked (size bytes : ℕ) (c : Chained) : Type 0 where
+  pub kept : IsKept size c
+  pub total : bytes ≡ used (chain_book size c)
+
+abbrev pub gap_of : Hole → Gap
+gap_of h = h.gap

@@ -1,0 +1,4 @@
+-- how slices are linked
+pub mod Chains
+-- the book that they are
+pub mod Kept

@@ -1,0 +1,134 @@
+//! The calls of a book over the chain.
+
+ghost use Rattle.std.specs.Prelude.{◌≡◌, ◌<◌};
+ghost use Rattle.kd_model.specs.Slices.{Book, has_number, lowest_unused};
+ghost use Rattle.kd_model.specs.Words.{some_of};
+ghost use Rattle.kd_links.specs.Kept.{IsKept, IsLinked, chain_book, slices_of};
+
+use crate::chain::Chain;
+use crate::gaps;
+use crate::node::Span;
+use kd_model::{NoPlace, SLICES, SliceBook, SliceNo};
+use std::alloc::{AllocError, Global};
+use std::marker::Model;
+
+/// A book of slices as a chain, which has a node for each number from the start on.
+#[derive(Debug, Drop)]
+pub struct Links {
+    size: u32,
+    used: u32,
+    chain: Chain,
+}
+
+impl Model for Links {
+    ghost Value = { Book };
+
+    ghost view = { λ s. chain_book s.size s.chain };
+
+    ghost invariant = { λ s. IsLinked s.size s.used s.chain };
+}
+
+impl SliceBook for Links {
+    ghost book = { λ s. s };
+
+    fn make(alloc: Global, size: u32) -> Result<Links, AllocError> {
+        Ok(Links {
+            size,
+            used: 0,
+            chain: Chain::make(alloc)?,
+        })
+    }
+
+    #[tactic(auto, unfolding(kd_model::specs::Slices::place))]
+    fn place(&mut self, len: u32) -> Result<(SliceNo, u32), NoPlace> {
+        let Some(number) = lowest_unused(&self.chain, self.size) else {
+            return Err(NoPlace::Spent);
+        };
+        let Some(hole) = gaps::smallest_gap(&self.chain, self.size, len) else {
+            return Err(NoPlace::Full);
+        };
+        let offset = hole.gap.start;
+        self.chain
+            .put_behind(hole.behind, number, Span { offset, len });
+        self.used += len;
+        Ok((SliceNo(number), offset))
+    }
+
+    fn give_back(&mut self, number: SliceNo) {
+        let span = self.chain.span(number.0);
+        self.chain.take_out(number.0);
+        self.used -= span.len;
+    }
+
+    fn at(&self, number: SliceNo) -> Option<(u32, u32)> {
+        let span = self.chain.span(number.0);
+        if span.len == 0 {
+            return None;
+        }
+        Some((span.offset, span.len))
+    }
+
+    fn used(&self) -> u32 {
+        self.used
+    }
+
+    fn largest_gap(&self) -> u32 {
+        gaps::largest_gap(&self.chain, self.size)
+    }
+}
+
+/// The lowest number that none of the slices has.
+fn lowest_unused(chain: &Chain, size: u32) -> Option<u32>
+    requires { IsKept size chain.now }
+    ensures { result ≡ lowest_unused (slices_of chain.now) }
+{
+    'numbers: for number in 0..SLICES {
+        if !is_used(chain, size, number) {
+            return Some(number);
+        }
+    }
+    None
+}
+
+/// Whether a slice has the number: its span has some bytes.
+fn is_used(chain: &Chain, size: u32, number: u32) -> bool
+    requires { IsKept size chain.now }
+    ensures { result ≡ some_of (has_number number) (slices_of chain.now) }
+{
+    chain.span(number).len > 0
+}
+
+#[cfg(test)]
+mod tests {
+    use super::Links;
+    use kd_model::{NoPlace, SliceBook, SliceNo};
+    use std::test::Fail;
+
+    /// Takes a slice back if the number is placed, and tells whether it was.
+    fn give_back_placed<B: SliceBook>(book: &mut B, number: SliceNo) -> bool {
+        let placed = book.at(number).is_some();
+        if placed {
+            book.give_back(number);
+        }
+        placed
+    }
+
+    #[test]
+    fn ranges_that_are_given_back_are_used_again(rt: HostRuntime) -> Result<(), Fail> {
+        let mut book = Links::make(rt.alloc(), 256)?;
+        assert_eq!(rt; book.place(64), Ok((SliceNo(0), 0)));
+        assert_eq!(rt; book.place(64), Ok((SliceNo(1), 64)));
+        assert_eq!(rt; book.place(64), Ok((SliceNo(2), 128)));
+        assert!(rt; give_back_placed(&mut book, SliceNo(0)));
+        assert_eq!(rt; book.place(64), Ok((SliceNo(0), 0)));
+        assert!(rt; give_back_placed(&mut book, SliceNo(1)));
+        assert_eq!(rt; book.place(56), Ok((SliceNo(1), 64)));
+        assert_eq!(rt; book.place(8), Ok((SliceNo(3), 120)));
+        assert_eq!(rt; book.largest_gap(), 64);
+        assert_eq!(rt; book.used(), 192);
+        assert_eq!(rt; book.at(SliceNo(3)), Some((120, 8)));
+        assert_eq!(rt; book.at(SliceNo(4)), None);
+        assert_eq!(rt; book.place(72), Err(NoPlace::Full));
+        Ok(())
+    }
+}
