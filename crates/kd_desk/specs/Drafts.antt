@@ -1,5 +1,5 @@
 -- The plans of the code, beside those of the definitions.
-use Rattle.std.specs.Prelude.{◌≡◌, ◌<◌, ◌+◌, ◌-◌, ◌^◌, ◌%◌, ℕ, ℤ, Bool, true, false, is_some, List, [], ◌∷◌, length, map, Option, None, Result, Ok, Err, get_or, set, unwrap_or, pos}
+use Rattle.std.specs.Prelude.{◌≡◌, ◌<◌, ◌+◌, ◌-◌, ◌^◌, ◌%◌, ℕ, Bool, true, false, is_some, List, [], ◌∷◌, length, map, Option, None, Result, Ok, Err, get_or, set, unwrap_or, pos}
 use Rattle.std.specs.List.{AllByRecursion}
 use Rattle.kd_types.specs.declared.refusal.Refusal.{Refusal}
 use Rattle.kd_model.specs.Words.{but_those, put_in_order}
@@ -36,10 +36,6 @@ without_content n p = record p { contents = set p.contents n None }
 -- where an offer's content was taken
 abbrev pub empty_content : Content
 empty_content = record { image = []; shared = None; priority = pos 0 }
-
--- a content without sealed bytes
-abbrev pub plain_content : List ℕ → ℤ → Content
-plain_content image priority = record { image = image; shared = None; priority = priority }
 
 -- a part of the code, with the content of its offer
 abbrev pub part_with : Option Content → code.Part → Part

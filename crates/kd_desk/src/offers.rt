@@ -136,6 +136,7 @@ fn content_for(
     Ok(Content {
         prefix: Blob::of(prefix),
         payload: letter.payload.clone()?,
+        shared: None,
         priority: letter.message.priority,
     })
 }
