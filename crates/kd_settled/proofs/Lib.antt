@@ -1,0 +1,12 @@
+pub mod Always
+pub mod Claims
+pub mod Coming
+pub mod Counts
+pub mod Endpoints
+pub mod Leaving
+pub mod Living
+pub mod Rooms
+pub mod Seats
+pub mod Senders
+pub mod Settling
+pub mod Tables

@@ -1,0 +1,22 @@
+//! What always holds of a desk: whatever is somebody's belongs to a live connection of the right
+//! kind or to an endpoint that is there, and nobody has more than it may have. All of it stands in
+//! `specs/`; each function's contract is a law.
+//!
+//! ```text
+//!   conns     1 on seat 0, 4 on seat 2        each of them has
+//!   registry  org.a: 1, 4                     at most 64 claims, by name and rank
+//!   rules     of 1, of 1, of 4                at most 64 rules
+//!   seals     of 4                            at most 16 seals
+//!   requests  1 of 4                          asked at most 128 requests
+//! ```
+//!
+//! - `specs/Settled`: the invariant
+//! - `specs/Room`: what follows of it, that every plan keeps it, and that a new bus has it
+#![tactic(auto)]
+
+mod laws;
+
+pub use laws::{
+    a_new_desk_is_settled, free_seats_have_room, many_are_few, owners_are_live, tables_have_room,
+    the_desk_stays_settled,
+};
