@@ -1,0 +1,14 @@
+pub mod Carried
+pub mod DeskHands
+pub mod DeskPuts
+pub mod Going
+pub mod Holds
+pub mod Knowing
+pub mod Marks
+pub mod Owing
+pub mod Puts
+pub mod Settling
+pub mod Sitters
+pub mod Snocs
+pub mod Ties
+pub mod Waiting

@@ -1,0 +1,5 @@
+use Rattle.kd_histories.proofs.Puts as lemmas
+use Rattle.kd_histories.proofs.laws.idles_may_be_put.Goals as goal
+
+pub returns : goal.returns
+returns c = lemmas.idles_may_be_put
