@@ -7,6 +7,7 @@ pub mod Knowing
 pub mod Marks
 pub mod Owing
 pub mod Puts
+pub mod Resting
 pub mod Settling
 pub mod Sitters
 pub mod Snocs

@@ -1,15 +1,18 @@
 -- What the desk's list says of seats, once its entries are true and come from the passes that have
 -- their seats.
-use Rattle.std.specs.Prelude.{◌≡◌, ◌≢◌, ◌<◌, ◌≤◌, ℕ, Bool, true, false, List, [], ◌∷◌, Option, Some, None}
+use Rattle.std.specs.Prelude.{◌≡◌, ◌≢◌, ◌<◌, ◌≤◌, ℕ, suc, Bool, true, false, List, [], ◌∷◌, Option, Some, None}
 use Rattle.kd_types.specs.declared.creds.Kind.{Kind}
 use Rattle.kd_model.specs.Words.{contains}
 use Rattle.kd_acts.specs.State.{Answer, Visit, by_desk}
-use Rattle.kd_acts.specs.Lasting.{open_after}
+use Rattle.kd_acts.specs.Lasting.{is_open, open_after}
 use Rattle.kd_commands.specs.Seating.{AreSeated, IsPlaced, is_live}
+use Rattle.kd_hands.specs.Locks.{Histories}
 use Rattle.kd_histories.specs.Turns.{Turn}
 use Rattle.kd_histories.specs.Slots.{AreTold, Slot, slot_of, unborn}
-use Rattle.kd_histories.specs.Visits.{addressed}
+use Rattle.kd_histories.specs.Visits.{addressed, visits_made}
 use Rattle.kd_histories.specs.Seats.{AreFair, Sitter, sitter}
+use Rattle.kd_histories.specs.Pools.{hold_of}
+use Rattle.kd_histories.specs.Tie.{Tie}
 
 -- whether a pool is open after visits that were answered so
 unfoldable pub open_by : List (Visit × Answer) → Bool → Bool
@@ -36,3 +39,17 @@ abbrev pub ListsKnow : Type 0
 ListsKnow =
     (list : List (ℕ × Turn)) → AreTold unborn list → ((c : ℕ) → AreFair c None list)
     → Knows (slot_of list) (λ c. sitter c list) (λ c. open_by (addressed c unborn list) false)
+
+-- ---- whenever nobody holds the desk
+
+-- each pool was made exactly what the desk's list addresses to it, in order, each once
+abbrev pub ExactlyAddressed : Type 0
+ExactlyAddressed =
+    (h : Histories Turn) (c : ℕ) → Tie h → h.opened ≡ []
+    → visits_made (h.lists (suc c)) ≡ addressed c unborn (h.lists 0)
+
+-- and the open pools are those of the live connections
+abbrev pub OpenAreLive : Type 0
+OpenAreLive =
+    (h : Histories Turn) (c : ℕ) → Tie h → h.opened ≡ []
+    → is_open (hold_of (h.lists (suc c))) ≡ is_live (slot_of (h.lists 0)).desk c

@@ -5,13 +5,18 @@ ghost use Rattle.kd_histories.specs.Seats.{OwnEntriesTell};
 ghost use Rattle.kd_histories.specs.Pools.{SweepsTell};
 ghost use Rattle.kd_histories.specs.Pairs.{OwedIsDue};
 ghost use Rattle.kd_histories.specs.Tie.{Tie, no_entry};
-ghost use Rattle.kd_histories.specs.Known.{ListsKnow};
+ghost use Rattle.kd_histories.specs.Known.{ExactlyAddressed, ListsKnow, OpenAreLive};
 ghost use Rattle.kd_histories.specs.Puts.{IdleDesksMayBePut, IdlesMayBePut, LeavesMayBePut, PublishesMayBePut, RaisesWhereNobodySits, ReadsMayBePut, ReceivesMayBePut, RemovesMayBePut, StartsMayBePut, VisitsMayBePut};
 
 /// The tie holds before any entry.
 #[tactic(auto, using(crate::proofs::Ties::opening_tie))]
 pub fn the_tie_begins()
     ensures { Tie no_entry }
+{}
+
+/// Whenever nobody holds the desk, each pool was made exactly what the desk's list addresses to it.
+pub fn pools_are_made_what_is_addressed()
+    ensures { ExactlyAddressed }
 {}
 
 /// A command addresses just the visits that its planner gives a desk's history.
@@ -30,6 +35,11 @@ pub fn own_entries_tell_the_seat()
 #[tactic(auto, using(crate::proofs::Knowing::lists_know))]
 pub fn lists_know_who_sits()
     ensures { ListsKnow }
+{}
+
+/// Whenever nobody holds the desk, the open pools are those of the live connections.
+pub fn open_pools_have_live_connections()
+    ensures { OpenAreLive }
 {}
 
 /// What a pass owes by its own entries is due, while the pool has that generation.
