@@ -1,5 +1,5 @@
 -- What a drain takes, in the order of its arrival, and how it settles.
-use Rattle.std.specs.Prelude.{◌≡◌, ◌<◌, ◌≤◌, ◌+◌, ◌-◌, ℕ, Bool, true, false, List, [], ◌∷◌, ◌++◌, cond, drop, length, map, Option, Some, None, refl}
+use Rattle.std.specs.Prelude.{◌≡◌, ◌<◌, ◌≤◌, ◌+◌, ℕ, Bool, true, false, List, [], ◌∷◌, ◌++◌, cond, drop, length, map, Option, Some, None, refl, set}
 use Rattle.std.specs.List.{AllByRecursion, find}
 use Rattle.std.proofs.lemmas.List.{append-nil, append_assoc, drop-drop, drop-map, drop_all, length-map}
 use Rattle.std.proofs.Common.{ap, arith, get_or, subst, length-append, length-drop, suc, sym, zero, ◌∙◌}
@@ -9,7 +9,10 @@ use Rattle.kd_model.specs.Words.{in_order, least, put_in_order, those}
 use Rattle.kd_types.specs.declared.refusal.Refusal.TheVariants.{Busy}
 use Rattle.kd_acts.specs.State.{Answer, Pool, Slice, drained, entry_of, is_earlier, is_reserved, is_waiting, queue_of, refused, slot_numbered, slots, waiting_slots}
 use Rattle.kd_acts.specs.Steps.{arrived_earlier, drain_step, image_of, of_lower_number, settled, waiting_images, without_waiting}
-use Rattle.kd_pool.specs.Table.{AreFound, carried, slice_shown}
+use Rattle.kd_pool.specs.Sealed.{Shares, share_at}
+use Rattle.kd_pool.specs.Table.{AreFound, carried, image_with, slice_shown}
+use Rattle.kd_pool.proofs.Sharing.{carried_behind}
+use Rattle.kd_acts.proofs.Apart.{AreApart}
 use Rattle.kd_acts.proofs.Arrivals.{all_of_waiting}
 use Rattle.kd_queue.specs.declared.entry.Entry.{Entry}
 use Rattle.kd_acts.specs.declared.slot.Slot.{Slot}
@@ -96,19 +99,19 @@ puts_all ss rows es i q h a =
     let none = drop_all i (waiting_slots ss) (omega (arith, length-map (waiting_slots ss) entry_of, same)) in
     sym (append-nil rows) ∙ ap (λ xs. rows ++ xs) (sym none) ∙ a.all
 
-map_in_order : (m : List ℕ) (ss : List Slot) → map (slice_shown m) (in_order is_earlier ss) ≡ in_order arrived_earlier (map (slice_shown m) ss)
-map_in_order m [] = refl
-map_in_order m (s ∷ ss) = map_of_put (slice_shown m) is_earlier arrived_earlier (λ a b. refl) s (in_order is_earlier ss) ∙ ap (put_in_order arrived_earlier (slice_shown m s)) (map_in_order m ss)
+map_in_order : (m : List ℕ) (h : Shares) (ss : List Slot) → map (slice_shown m h) (in_order is_earlier ss) ≡ in_order arrived_earlier (map (slice_shown m h) ss)
+map_in_order m h [] = refl
+map_in_order m h (s ∷ ss) = map_of_put (slice_shown m h) is_earlier arrived_earlier (λ a b. refl) s (in_order is_earlier ss) ∙ ap (put_in_order arrived_earlier (slice_shown m h s)) (map_in_order m h ss)
 
-map_twice : (m : List ℕ) (ss : List Slot) → map (carried m) ss ≡ map image_of (map (slice_shown m) ss)
-map_twice m [] = refl
-map_twice m (s ∷ ss) = ap (λ xs. carried m s ∷ xs) (map_twice m ss)
+map_twice : (m : List ℕ) (h : Shares) (ss : List Slot) → map (carried m h) ss ≡ map image_of (map (slice_shown m h) ss)
+map_twice m h [] = refl
+map_twice m h (s ∷ ss) = ap (λ xs. carried m h s ∷ xs) (map_twice m h ss)
 
 -- the messages that wait in a pool, by its table
-pub images_shown : (m : List ℕ) (ss : List Slot) (p : Pool) → p.slices ≡ map (slice_shown m) ss → map (carried m) (waiting_slots ss) ≡ waiting_images p
-images_shown m ss p e =
-    map_twice m (waiting_slots ss)
-    ∙ ap (map image_of) (map_in_order m (those is_waiting ss) ∙ ap (in_order arrived_earlier) (map_of_filter (slice_shown m) is_waiting (λ (s : Slice). is_waiting s.slot) (λ s. refl) ss))
+pub images_shown : (m : List ℕ) (h : Shares) (ss : List Slot) (p : Pool) → p.slices ≡ map (slice_shown m h) ss → map (carried m h) (waiting_slots ss) ≡ waiting_images p
+images_shown m h ss p e =
+    map_twice m h (waiting_slots ss)
+    ∙ ap (map image_of) (map_in_order m h (those is_waiting ss) ∙ ap (in_order arrived_earlier) (map_of_filter (slice_shown m h) is_waiting (λ (s : Slice). is_waiting s.slot) (λ s. refl) ss))
     ∙ ap (λ xs. map image_of (in_order arrived_earlier (those (λ (s : Slice). is_waiting s.slot) xs))) (sym e)
 
 -- by the lowest reserved number, if any
@@ -120,11 +123,13 @@ drains p ss o e f = ap told (ap (λ xs. least of_lower_number (those is_reserved
     told o = elim o [ Some s ↦ (p, refused (Busy s.number)) | None ↦ (without_waiting p, drained (waiting_images p)) ]
 
 -- nothing is seen of an empty table alone
-pub none_seen : (m : List ℕ) (ss : List Slot) → map (carried m) ss ≡ [] → ss ≡ []
-none_seen m [] e = refl
-none_seen m (s ∷ ss) e = cc
+pub none_seen : (m : List ℕ) (h : Shares) (ss : List Slot) → map (carried m h) ss ≡ [] → ss ≡ []
+none_seen m h [] e = refl
+none_seen m h (s ∷ ss) e = cc
 
--- one more message settles
-pub settles_on : (m : List ℕ) (rows : List Slot) (i : ℕ) (s : Slot) (p after : Pool) → i < length rows → s ≡ get_or rows i s → after ≡ settled (carried m s ∷ []) p → settled (map (carried m) (drop (i + 1) rows)) after ≡ settled (map (carried m) (drop i rows)) p
-settles_on m rows i s p after h e f =
-    ap (settled (map (carried m) (drop (i + 1) rows))) f ∙ ap (λ xs. settled (map (carried m) xs) p) (sym (rest_at rows i s h e))
+-- one more message settles, with its share
+pub settles_on : (m : List ℕ) (h left : Shares) (rows : List Slot) (i : ℕ) (s : Slot) (p after : Pool) → i < length rows → s ≡ get_or rows i s → AreApart rows → left ≡ set h s.number None → after ≡ settled (image_with m (share_at h s.number) s ∷ []) p
+    → settled (map (carried m left) (drop (i + 1) rows)) after ≡ settled (map (carried m h) (drop i rows)) p
+settles_on m h left rows i s p after low e d taken f =
+    ap (λ xs. settled xs after) (carried_behind m h left rows i s low e d taken)
+    ∙ ap (settled (map (carried m h) (drop (i + 1) rows))) f ∙ ap (λ xs. settled (map (carried m h) xs) p) (sym (rest_at rows i s low e))

@@ -1,5 +1,5 @@
 -- What a pool keeps through each change of its table.
-use Rattle.std.specs.Prelude.{◌≡◌, ◌<◌, ◌≤◌, ◌||◌, ℕ, Bool, true, false, List, [], ◌∷◌, length, map, not, refl, IsTrue, Option, Some, None, ◌+◌, sum_by, ℤ}
+use Rattle.std.specs.Prelude.{◌≡◌, ◌<◌, ◌≤◌, ◌%◌, ◌||◌, ℕ, Bool, true, false, List, [], ◌∷◌, length, map, not, refl, IsTrue, Option, Some, None, ◌+◌, set, sum_by, ℤ}
 use Rattle.kd_model.specs.declared.placed.Gap.{Gap}
 use Rattle.kd_model.specs.declared.placed.Placed.{Placed}
 use Rattle.std.specs.List.{AllByRecursion, IsDistinct, find}
@@ -15,6 +15,7 @@ use Rattle.kd_model.specs.Words.{but_those, put_in_order, some_of}
 use Rattle.kd_acts.specs.State.{Pool, Slice, book_of, slot_numbered, lies_lower, placed_of}
 use Rattle.kd_acts.specs.Sound.{IsKept, IsSoundPool}
 use Rattle.kd_acts.specs.Steps.{filled, in_phase, now_queued, offset_of, queued_slot, with_content, written}
+use Rattle.kd_pool.specs.Sealed.{Shares}
 use Rattle.kd_pool.specs.Table.{AreKept, IsCarried, slice_shown}
 use Rattle.kd_acts.specs.declared.slot.Phase.{Phase}
 use Rattle.kd_acts.specs.declared.slot.Slot.{Slot}
@@ -128,30 +129,30 @@ in_book m b ss n room k h = rw (k.tied) (any_placed ss ∙ h)
     any_placed (t ∷ ts) = ap (λ b. slot_numbered n t || b) (any_placed ts)
 
 -- the book under the view
-pub book_shown : (m : List ℕ) (b : Book) (ss : List Slot) (room arrival dropped offered : ℕ) → AreKept m b ss room → book_of (record { size = b.size; memory = m; slices = map (slice_shown m) ss; next_arrival = arrival; dropped = dropped; offered = offered }) ≡ b
-book_shown m b ss room arrival dropped offered k =
-    ap (λ xs. record { size = b.size; slices = map placed_of xs }) (slots_shown m ss) ∙ ap (λ xs. record { size = b.size; slices = xs }) (sym k.tied)
+pub book_shown : (m : List ℕ) (h : Shares) (b : Book) (ss : List Slot) (room arrival dropped offered : ℕ) → AreKept m b ss room → book_of (record { size = b.size; memory = m; slices = map (slice_shown m h) ss; next_arrival = arrival; dropped = dropped; offered = offered }) ≡ b
+book_shown m h b ss room arrival dropped offered k =
+    ap (λ xs. record { size = b.size; slices = map placed_of xs }) (slots_shown m h ss) ∙ ap (λ xs. record { size = b.size; slices = xs }) (sym k.tied)
 
 -- what a pool keeps makes it sound
-pub pool_is_sound : (m : List ℕ) (b : Book) (ss : List Slot) (room arrival dropped offered : ℕ) → AreKept m b ss room → IsSoundPool (record { size = b.size; memory = m; slices = map (slice_shown m) ss; next_arrival = arrival; dropped = dropped; offered = offered })
+pub pool_is_sound : (m : List ℕ) (h : Shares) (b : Book) (ss : List Slot) (room arrival dropped offered : ℕ) → AreKept m b ss room → IsSoundPool (record { size = b.size; memory = m; slices = map (slice_shown m h) ss; next_arrival = arrival; dropped = dropped; offered = offered })
 unfolding gaps
-pool_is_sound m b ss room arrival dropped offered k =
-    let seen = sym (book_shown m b ss room arrival dropped offered k) in
+pool_is_sound m h b ss room arrival dropped offered k =
+    let seen = sym (book_shown m h b ss room arrival dropped offered k) in
     let made_up : model.used b + sum_by (λ (g : Gap). g.len) (model.gaps_from 0 b.size b.slices) ≡ b.size = omega (arith, order_is_whole 0 b.size b.slices k.sound.order) in
     record {
       memory = k.whole;
       book = rw seen at k.sound;
-      whole = ap (λ (x : Book). model.used x + sum_by (λ (g : Gap). g.len) (model.gaps_from 0 x.size x.slices)) (book_shown m b ss room arrival dropped offered k) ∙ made_up;
+      whole = ap (λ (x : Book). model.used x + sum_by (λ (g : Gap). g.len) (model.gaps_from 0 x.size x.slices)) (book_shown m h b ss room arrival dropped offered k) ∙ made_up;
       bytes = bytes ss;
     }
   where
-    bytes : (ts : List Slot) → AllByRecursion (IsKept m) (map (slice_shown m) ts)
+    bytes : (ts : List Slot) → AllByRecursion (IsKept m) (map (slice_shown m h) ts)
     bytes [] = tt
     bytes (t ∷ ts) = (refl, bytes ts)
 
 -- the value of a pool
-abbrev pub view : List ℕ → Book → List Slot → ℕ → ℕ → ℕ → Pool
-view m b ss arrival dropped offered = record { size = b.size; memory = m; slices = map (slice_shown m) ss; next_arrival = arrival; dropped = dropped; offered = offered }
+abbrev pub view : List ℕ → Shares → Book → List Slot → ℕ → ℕ → ℕ → Pool
+view m h b ss arrival dropped offered = record { size = b.size; memory = m; slices = map (slice_shown m h) ss; next_arrival = arrival; dropped = dropped; offered = offered }
 
 -- pools of one size with the same slices
 pub same_view : (m : List ℕ) (n k : ℕ) (xs ys : List Slice) (arrival dropped offered : ℕ) → n ≡ k → xs ≡ ys
@@ -161,18 +162,18 @@ same_view m n k xs ys arrival dropped offered e f =
     ap (λ i. P i xs) e ∙ ap (λ zs. P k zs) f
 
 -- publishing fills the slice of the number
-pub fills : (m : List ℕ) (b : Book) (ss : List Slot) (room arrival dropped offered n : ℕ) (image : List ℕ) (priority : ℤ) (t : Slot) → AreKept m b ss room → find (slot_numbered n) ss ≡ Some t → length image ≡ t.len
-    → (let x : Pool = view (written m t.offset image) b (map (now_queued n priority arrival) ss) (arrival + 1) dropped offered in x) ≡ filled n (record { image = image; shared = None; priority = priority }) (view m b ss arrival dropped offered)
+pub fills : (m : List ℕ) (h : Shares) (b : Book) (ss : List Slot) (room arrival dropped offered n : ℕ) (image : List ℕ) (share : Option (List ℕ)) (priority : ℤ) (t : Slot) → AreKept m b ss room → n < length h → find (slot_numbered n) ss ≡ Some t → length image ≡ t.len
+    → (let x : Pool = view (written m t.offset image) (set h n share) b (map (now_queued n priority arrival) ss) (arrival + 1) dropped offered in x) ≡ filled n (record { image = image; shared = share; priority = priority }) (view m h b ss arrival dropped offered)
 unfolding filled
-fills m b ss room arrival dropped offered n image priority t k found fits =
+fills m h b ss room arrival dropped offered n image share priority t k low found fits =
     let order : AreInOrder 0 b.size (map placed_of ss) = rw (sym k.tied) k.sound.order in
     let distinct : IsDistinct model.has_same_number (map placed_of ss) = rw (sym k.tied) k.sound.distinct in
     let inside : t.offset + t.len ≤ b.size = omega (arith, all_of_found _ (slot_numbered n) ss t (ends_inside m b ss room k) found, k.whole) in
     let stand = all_stand n 0 b.size t ss order distinct found in
-    let all = all_published n image priority arrival b.size m t ss k.whole fits inside stand in
-    let at : t.offset ≡ offset_of n (view m b ss arrival dropped offered) = ap place_of (sym (ap (find (slot_numbered n)) (slots_shown m ss) ∙ found)) in
+    let all = all_published n image share priority arrival b.size m h t ss k.whole fits inside low stand in
+    let at : t.offset ≡ offset_of n (view m h b ss arrival dropped offered) = ap place_of (sym (ap (find (slot_numbered n)) (slots_shown m h ss) ∙ found)) in
     let P : ℕ → List Slice → Pool = λ i zs. record { size = b.size; memory = written m i image; slices = zs; next_arrival = arrival + 1; dropped = dropped; offered = offered } in
-    ap (λ zs. P t.offset zs) all ∙ ap (λ i. P i (map (with_content n (record { image = image; shared = None; priority = priority }) arrival) (map (slice_shown m) ss))) at
+    ap (λ zs. P t.offset zs) all ∙ ap (λ i. P i (map (with_content n (record { image = image; shared = share; priority = priority }) arrival) (map (slice_shown m h) ss))) at
   where
     place_of : Option Slot → ℕ
     place_of o = elim o [ None ↦ 0 | Some s ↦ s.offset ]
@@ -180,3 +181,12 @@ fills m b ss room arrival dropped offered n image priority t k found fits =
 -- a slot with an unused number is found once it is in the table
 pub finds_reserved : (m : List ℕ) (b : Book) (ss : List Slot) (room n : ℕ) (t : Slot) → AreKept m b ss room → model.unused_number b ≡ Some n → t.number ≡ n → find (slot_numbered n) (put_in_order lies_lower t ss) ≡ Some t
 finds_reserved m b ss room n t k h e = finds_put n t ss (grind (arith, nat_tests)) (all_under (λ p. model.has_number n p ≡ false) placed_of ss (rw k.tied at (unused_is_free b n h)))
+
+-- no slot of the table has an unused number
+pub free_number : (m : List ℕ) (b : Book) (ss : List Slot) (room n : ℕ) → AreKept m b ss room → model.unused_number b ≡ Some n → AllByRecursion (λ (s : Slot). slot_numbered n s ≡ false) ss
+free_number m b ss room n k h = all_under (λ p. model.has_number n p ≡ false) placed_of ss (rw k.tied at (unused_is_free b n h))
+
+-- an empty book is sound
+pub none_sound : (size : ℕ) → size % 8 ≡ 0 → IsSound (record { size = size; slices = [] })
+unfolding IsDistinct
+none_sound size e = record { eights = e; order = omega arith; even = tt; numbers = tt; distinct = tt }

@@ -6,6 +6,7 @@ pub mod Offers
 pub mod Picks
 pub mod Publishes
 pub mod Queued
+pub mod Sharing
 pub mod Shares
 pub mod Sweeps
 pub mod Views

@@ -1,5 +1,5 @@
 -- Publishing writes the bytes of one slice and of no other.
-use Rattle.std.specs.Prelude.{◌≡◌, ◌≤◌, ◌+◌, ◌⊎◌, ℕ, Bool, true, false, List, [], ◌∷◌, cond, length, map, Some, None, refl, ℤ}
+use Rattle.std.specs.Prelude.{◌≡◌, ◌<◌, ◌≤◌, ◌+◌, ◌⊎◌, ℕ, Bool, true, false, List, [], ◌∷◌, cond, length, map, Option, Some, refl, set, ℤ}
 use Rattle.std.specs.List.{AllByRecursion, IsDistinct, find}
 use Rattle.std.proofs.Common.{ap, arith, inl, inr, sym, ◌∙◌, ⊎_elim}
 use Rattle.std.proofs.lemmas.Bool.{false≢true}
@@ -9,7 +9,9 @@ use Rattle.kd_model.specs.Slices.{AreInOrder, has_same_number}
 use Rattle.kd_acts.specs.State.{Content, slot_numbered, placed_of}
 use Rattle.kd_acts.specs.Sound.{slot_range}
 use Rattle.kd_acts.specs.Steps.{now_queued, queued_slot, with_content, written}
+use Rattle.kd_pool.specs.Sealed.{Shares, share_at}
 use Rattle.kd_pool.specs.Table.{slice_shown}
+use Rattle.kd_pool.proofs.Sharing.{other_share, own_share}
 use Rattle.kd_acts.specs.declared.slot.Slot.{Slot}
 use Rattle.kd_pool.proofs.Writes.{written_elsewhere, written_there}
 
@@ -59,24 +61,26 @@ all_stand n from size t (s ∷ ss) o d f = go (slot_numbered n s) refl f (all_st
         let inside : s.offset + s.len ≤ size = (all_behind from size (s ∷ ss) o).0.1 in
         (record { it = λ h. absurd (false≢true (sym e ∙ h)); other = λ h. inl found.0; inside = inside }, ih g)
 
-published : (n : ℕ) (image : List ℕ) (priority : ℤ) (arrival size : ℕ) (m : List ℕ) (t s : Slot) → length m ≡ size → length image ≡ t.len → t.offset + t.len ≤ size → Stands n size t s → slice_shown (written m t.offset image) (now_queued n priority arrival s) ≡ with_content n (record { image = image; shared = None; priority = priority }) arrival (slice_shown m s)
-published n image priority arrival size m t s whole fits inside a = go (slot_numbered n s) refl
+published : (n : ℕ) (image : List ℕ) (share : Option (List ℕ)) (priority : ℤ) (arrival size : ℕ) (m : List ℕ) (h : Shares) (t s : Slot) → length m ≡ size → length image ≡ t.len → t.offset + t.len ≤ size → n < length h → Stands n size t s → slice_shown (written m t.offset image) (set h n share) (now_queued n priority arrival s) ≡ with_content n (record { image = image; shared = share; priority = priority }) arrival (slice_shown m h s)
+published n image share priority arrival size m h t s whole fits inside low a = go (slot_numbered n s) refl
   where
-    go : (b : Bool) → slot_numbered n s ≡ b → slice_shown (written m t.offset image) (elim b [ true ↦ queued_slot priority arrival s | false ↦ s ]) ≡ elim b [ true ↦ record { slot = queued_slot priority arrival s; bytes = image; shared = None } | false ↦ slice_shown m s ]
+    go : (b : Bool) → slot_numbered n s ≡ b → slice_shown (written m t.offset image) (set h n share) (elim b [ true ↦ queued_slot priority arrival s | false ↦ s ]) ≡ elim b [ true ↦ record { slot = queued_slot priority arrival s; bytes = image; shared = share } | false ↦ slice_shown m h s ]
     go true e =
         let place : s ≡ t = a.it e in
         let there : slot_range (written m t.offset image) s ≡ image = ap (slot_range (written m t.offset image)) place ∙ written_there m image t.offset t.len (omega arith) fits in
-        ap (λ xs. record { slot = queued_slot priority arrival s; bytes = xs; shared = None }) there
+        let own : share_at (set h n share) s.number ≡ share = own_share h n s share low e in
+        ap (λ xs. record { slot = queued_slot priority arrival s; bytes = xs; shared = share_at (set h n share) s.number }) there ∙ ap (λ x. record { slot = queued_slot priority arrival s; bytes = image; shared = x }) own
     go false e =
         let apart = a.other e in
         let stays : slot_range (written m t.offset image) s ≡ slot_range m s = written_elsewhere m image t.offset s.offset s.len (omega arith) (⊎_elim (λ l. inl l) (λ r. inr (omega arith)) apart) in
-        ap (λ xs. record { slot = s; bytes = xs; shared = None }) stays
+        let other : share_at (set h n share) s.number ≡ share_at h s.number = other_share h n s share e in
+        ap (λ xs. record { slot = s; bytes = xs; shared = share_at (set h n share) s.number }) stays ∙ ap (λ x. record { slot = s; bytes = slot_range m s; shared = x }) other
 
 -- the table is seen with the content in the slice of the number, and all others as they were
-pub all_published : (n : ℕ) (image : List ℕ) (priority : ℤ) (arrival size : ℕ) (m : List ℕ) (t : Slot) (ss : List Slot) → length m ≡ size → length image ≡ t.len → t.offset + t.len ≤ size → AllByRecursion (Stands n size t) ss
-    → map (slice_shown (written m t.offset image)) (map (now_queued n priority arrival) ss) ≡ map (with_content n (record { image = image; shared = None; priority = priority }) arrival) (map (slice_shown m) ss)
-all_published n image priority arrival size m t [] whole fits inside a = refl
-all_published n image priority arrival size m t (s ∷ ss) whole fits inside a =
-    let c : Content = record { image = image; shared = None; priority = priority } in
-    ap (λ x. x ∷ map (slice_shown (written m t.offset image)) (map (now_queued n priority arrival) ss)) (published n image priority arrival size m t s whole fits inside a.0)
-    ∙ ap (λ xs. with_content n c arrival (slice_shown m s) ∷ xs) (all_published n image priority arrival size m t ss whole fits inside a.1)
+pub all_published : (n : ℕ) (image : List ℕ) (share : Option (List ℕ)) (priority : ℤ) (arrival size : ℕ) (m : List ℕ) (h : Shares) (t : Slot) (ss : List Slot) → length m ≡ size → length image ≡ t.len → t.offset + t.len ≤ size → n < length h → AllByRecursion (Stands n size t) ss
+    → map (slice_shown (written m t.offset image) (set h n share)) (map (now_queued n priority arrival) ss) ≡ map (with_content n (record { image = image; shared = share; priority = priority }) arrival) (map (slice_shown m h) ss)
+all_published n image share priority arrival size m h t [] whole fits inside low a = refl
+all_published n image share priority arrival size m h t (s ∷ ss) whole fits inside low a =
+    let c : Content = record { image = image; shared = share; priority = priority } in
+    ap (λ x. x ∷ map (slice_shown (written m t.offset image) (set h n share)) (map (now_queued n priority arrival) ss)) (published n image share priority arrival size m h t s whole fits inside low a.0)
+    ∙ ap (λ xs. with_content n c arrival (slice_shown m h s) ∷ xs) (all_published n image share priority arrival size m h t ss whole fits inside low a.1)

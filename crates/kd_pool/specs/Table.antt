@@ -1,6 +1,6 @@
--- What a pool keeps in its table, its book and its queue.
-use Rattle.std.specs.Prelude.{if◌then◌else◌, IfSome, Option, ◌≡◌, ◌<◌, ◌≤◌, ◌%◌, ◌+◌, ◌^◌, ℕ, Bool, false, length, List, map, Some, None}
-use Rattle.std.specs.List.{AllByRecursion}
+-- What a pool keeps in its table, its book, its queue and its shares.
+use Rattle.std.specs.Prelude.{if◌then◌else◌, IfSome, Option, ◌≡◌, ◌<◌, ◌≤◌, ◌%◌, ◌+◌, ◌^◌, ◌==◌, ℕ, Bool, false, length, List, map, Some, None}
+use Rattle.std.specs.List.{AllByRecursion, IsDistinct}
 use Rattle.kd_model.specs.Slices.{Book, IsSound, without_slice}
 use Rattle.kd_model.specs.declared.slice_no.TheConstants.{SLICES}
 use Rattle.kd_model.specs.Words.{first, least, those}
@@ -9,12 +9,17 @@ use Rattle.kd_acts.specs.Arriving.{IsBefore}
 use Rattle.kd_acts.specs.State.{Image, Slice, slot_numbered, is_reserved, is_waiting, placed_of, queue_of, waiting_slots}
 use Rattle.kd_acts.specs.Sound.{slot_range}
 use Rattle.kd_acts.specs.Steps.{image_of, of_lower_number}
+use Rattle.kd_pool.specs.Sealed.{AreShared, Shares, share_at}
 use Rattle.kd_acts.specs.declared.slot.Phase.{Phase}
 use Rattle.kd_acts.specs.declared.slot.Slot.{Slot}
 
--- a slot with its bytes in memory
-abbrev pub slice_shown : List ℕ → Slot → Slice
-slice_shown memory s = record { slot = s; bytes = slot_range memory s; shared = None }
+-- a slot with its bytes in memory, and with a share
+abbrev pub slice_with : List ℕ → Option (List ℕ) → Slot → Slice
+slice_with memory share s = record { slot = s; bytes = slot_range memory s; shared = share }
+
+-- with the share of its number
+abbrev pub slice_shown : List ℕ → Shares → Slot → Slice
+slice_shown memory shares s = slice_with memory (share_at shares s.number) s
 
 -- each slot is the one that is found by its number
 abbrev pub AreFound : List Slot → Type 0
@@ -58,18 +63,24 @@ pub record AreQueued (table : List Slot) (queue : List Entry) (now : ℕ) : Type
 
 -- what a pool keeps
 pub record IsPoolKept
-    (memory : List ℕ) (book : Book) (table : List Slot) (queue : List Entry) (now room : ℕ)
+    (memory : List ℕ) (book : Book) (table : List Slot) (queue : List Entry) (shares : Shares)
+    (now room : ℕ)
     : Type 0 where
   pub kept : AreKept memory book table room
   pub queued : AreQueued table queue now
+  pub shared : AreShared table shares
 
--- the message of a slot, with its bytes in memory
-abbrev pub carried : List ℕ → Slot → Image
-carried memory s = image_of (slice_shown memory s)
+-- the message of a slot, with its bytes in memory, and with a share
+abbrev pub image_with : List ℕ → Option (List ℕ) → Slot → Image
+image_with memory share s = image_of (slice_with memory share s)
 
--- the messages that wait, in order of arrival, with their bytes in memory
-abbrev pub images_waiting : List ℕ → List Slot → List Image
-images_waiting memory ss = map (carried memory) (waiting_slots ss)
+-- with the share of its number
+abbrev pub carried : List ℕ → Shares → Slot → Image
+carried memory shares s = image_with memory (share_at shares s.number) s
+
+-- the messages that wait, in order of arrival
+abbrev pub images_waiting : List ℕ → Shares → List Slot → List Image
+images_waiting memory shares ss = map (carried memory shares) (waiting_slots ss)
 
 -- a slot that lies inside a memory of a size, and has a positive multiple of 8 bytes
 pub record IsCarried (size : ℕ) (s : Slot) : Type 0 where
@@ -77,9 +88,20 @@ pub record IsCarried (size : ℕ) (s : Slot) : Type 0 where
   pub some : 0 < s.len
   pub eights : s.len % 8 ≡ 0
 
--- what a buffer of drained messages keeps: slots inside its memory, at most as many as there are
--- numbers, and room for that many
-pub record AreCarried (memory : List ℕ) (rows : List Slot) (room : ℕ) : Type 0 where
+-- slots of which no two have one number
+abbrev pub HaveOwnNumbers : List Slot → Type 0
+HaveOwnNumbers ss = IsDistinct (λ (a b : Slot). a.number == b.number) ss
+
+-- each is below 256
+abbrev pub HaveLowNumbers : List Slot → Type 0
+HaveLowNumbers ss = AllByRecursion (λ (s : Slot). s.number < SLICES) ss
+
+-- what a buffer of drained messages keeps: slots inside its memory under numbers of their own, at
+-- most as many as there are numbers, and room for that many and for their shares
+pub record AreCarried (memory : List ℕ) (rows : List Slot) (shares : Shares) (room : ℕ)
+    : Type 0 where
   pub each : AllByRecursion (IsCarried (length memory)) rows
+  pub apart : HaveOwnNumbers rows
   pub few : length rows ≤ SLICES
   pub enough : SLICES ≤ room
+  pub wide : length shares ≡ SLICES

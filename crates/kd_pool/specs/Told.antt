@@ -1,13 +1,13 @@
 -- What a call answers, as an answer of the definitions.
-use Rattle.std.specs.Prelude.{ℕ, ℤ, ◌≡◌, ◌≤◌, ◌^◌, List, None, Option, Result, Ok, Err}
+use Rattle.std.specs.Prelude.{ℕ, ℤ, ◌≡◌, ◌≤◌, ◌^◌, List, Option, Result, Ok, Err}
 use Rattle.kd_types.specs.declared.refusal.Refusal.{Refusal}
 use Rattle.kd_acts.specs.State.{Answer, Content, Image, Pool, drained, got, refused, slice}
 use Rattle.kd_acts.specs.Steps.{reserve_step}
 use Rattle.kd_acts.specs.declared.receive.Got.{Got}
 
--- a message without a share of sealed bytes
-abbrev pub bare : List ℕ → ℤ → Content
-bare image priority = record { image = image; shared = None; priority = priority }
+-- a message: its bytes, its share of sealed bytes if it takes one along, its priority
+abbrev pub message : List ℕ → Option (List ℕ) → ℤ → Content
+message image share priority = record { image = image; shared = share; priority = priority }
 
 -- an offer
 abbrev pub offer_answer : Result ℕ Refusal → Answer

@@ -3,22 +3,27 @@
 ghost use Rattle.std.specs.Prelude.{[], ◌≡◌, ◌≤◌, ◌↔◌, IfOk, IsTrue, length, map, vec_capacity};
 ghost use Rattle.std.specs.List.{AllByRecursion};
 ghost use Rattle.kd_model.specs.declared.slice_no.TheConstants.{SLICES};
-ghost use Rattle.kd_acts.specs.State.{Batch, queue_of};
-ghost use Rattle.kd_pool.specs.Table.{AreCarried, AreFound, IsCarried, carried, images_waiting};
+ghost use Rattle.kd_acts.specs.State.{Batch, is_waiting, queue_of};
+ghost use Rattle.kd_pool.specs.Sealed.{without_shares};
+ghost use Rattle.kd_pool.specs.Table.{AreCarried, AreFound, HaveLowNumbers, HaveOwnNumbers, IsCarried, carried, images_waiting};
 
-use crate::{memory, table};
+use crate::{memory, sealed, table};
 use kd_acts::Slot;
 use kd_model::SLICES;
 use kd_queue::Entry;
+use kd_seal::Sealed;
 use std::alloc::{AllocError, Global};
 use std::marker::Model;
 
 /// Messages that were drained from a pool, on their way to another one: the bytes of the pool as
-/// they were, and the slots of the messages by rising arrival. No call but `make` takes memory.
+/// they were, the slots of the messages by rising arrival, and the shares of sealed bytes that they
+/// take along. No call but `make` takes memory.
 #[derive(Debug, Drop)]
 pub struct Drained {
     memory: Vec<u8>,
     rows: Vec<Slot>,
+    /// By the numbers of the slots.
+    shares: Vec<Option<Sealed>>,
 }
 
 impl Model for Drained {
@@ -27,10 +32,11 @@ impl Model for Drained {
     ghost view = { λ d.
         record {
           size = length d.memory.items;
-          images = map (carried d.memory.items) d.rows.items;
+          images = map (carried d.memory.items d.shares.items) d.rows.items;
         } };
 
-    ghost invariant = { λ d. AreCarried d.memory.items d.rows.items (vec_capacity d.rows) };
+    ghost invariant = { λ d.
+        AreCarried d.memory.items d.rows.items d.shares.items (vec_capacity d.rows) };
 }
 
 impl Drained {
@@ -41,6 +47,7 @@ impl Drained {
         Ok(Drained {
             memory: memory::zeros(alloc, size)?,
             rows: Vec::with_capacity(alloc, SLICES as usize)?,
+            shares: sealed::none(alloc)?,
         })
     }
 
@@ -58,33 +65,38 @@ impl Drained {
         self.rows.is_empty()
     }
 
-    /// Takes the messages over that wait in a pool.
-    pub(crate) fn take_over(&mut self, memory: &[u8], slots: &[Slot], entries: &[Entry])
+    /// Takes the messages over that wait in a pool, and their shares.
+    pub(crate) fn take_over(
+        &mut self,
+        memory: &[u8],
+        slots: &[Slot],
+        entries: &[Entry],
+        shares: &mut Vec<Option<Sealed>>,
+    )
         requires size { length memory.now ≡ self.old.size }
         requires empty { self.old.images ≡ [] }
         requires few { length slots.now ≤ SLICES }
         requires each { AllByRecursion (IsCarried (length memory.now)) slots.now }
         requires found { AreFound slots.now }
+        requires apart { HaveOwnNumbers slots.now }
+        requires below { HaveLowNumbers slots.now }
         requires queued { entries.now ≡ queue_of slots.now }
-        ensures { self.new ≡ record self.old { images = images_waiting memory.now slots.now } }
+        ensures images { self.new
+            ≡ record self.old { images = images_waiting memory.now shares.old.items slots.now } }
+        ensures shares { shares.new.items ≡ without_shares is_waiting slots.now shares.old.items }
     {
         self.memory.copy_from_slice(memory);
         table::put_queued(&mut self.rows, slots, entries);
+        sealed::move_waiting(shares, &mut self.shares, slots);
     }
 
-    /// The memory, and the slots that lie in it.
-    pub(crate) fn parts(&self) -> (&[u8], &[Slot])
-        ensures images { self.now.images ≡ map (carried result.0.now) result.1.now }
-        ensures few { length result.1.now ≤ SLICES }
-        ensures each { AllByRecursion (IsCarried (length result.0.now)) result.1.now }
+    /// The memory, the slots that lie in it, and their shares.
+    pub(crate) fn into_parts(self) -> (Vec<u8>, Vec<Slot>, Vec<Option<Sealed>>)
+        ensures images { self.images ≡ map (carried result.0.items result.2.items) result.1.items }
+        ensures few { length result.1.items ≤ SLICES }
+        ensures each { AllByRecursion (IsCarried (length result.0.items)) result.1.items }
+        ensures apart { HaveOwnNumbers result.1.items }
     {
-        (&self.memory, &self.rows)
-    }
-
-    /// Forgets the messages.
-    pub(crate) fn clear(&mut self)
-        ensures { self.new ≡ record self.old { images = [] } }
-    {
-        self.rows.clear();
+        (self.memory, self.rows, self.shares)
     }
 }

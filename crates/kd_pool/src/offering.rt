@@ -5,7 +5,7 @@ ghost use Rattle.kd_acts.specs.Steps.{after_miss, must_offer_step, reserve_step,
 ghost use Rattle.kd_pool.specs.Told.{offer_answer};
 
 use crate::pool::Pool;
-use crate::{giving, table};
+use crate::{giving, sealed, table};
 use kd_acts::{Phase, Slot};
 use kd_model::{NoPlace, SliceBook, SliceNo};
 use kd_types::{ConnId, Refusal};
@@ -76,6 +76,7 @@ impl Pool {
     pub fn sweep(&mut self)
         ensures { self.new ≡ swept self.old }
     {
+        sealed::end_freed(&mut self.shares, &self.slots);
         giving::give_back_freed(&mut self.book, &self.slots);
         table::take_out_freed(&mut self.slots);
     }

@@ -7,10 +7,11 @@ ghost use Rattle.kd_acts.specs.Sound.{IsSoundPool};
 ghost use Rattle.kd_acts.specs.State.{book_of, is_pending, slots};
 ghost use Rattle.kd_acts.specs.Steps.{new_pool, reserved_length};
 
-use crate::{memory, table};
+use crate::{memory, sealed, table};
 use kd_acts::Slot;
 use kd_model::{SLICES, SliceBook, SliceNo};
 use kd_queue::Queue;
+use kd_seal::Sealed;
 use kd_slices::Slices;
 use std::alloc::{AllocError, Global};
 use std::marker::Model;
@@ -26,6 +27,8 @@ pub struct Pool {
     pub(crate) slots: Vec<Slot>,
     /// Those of them that wait, in order of arrival.
     pub(crate) queue: Queue,
+    /// The shares of sealed bytes that slices hold, by their numbers.
+    pub(crate) shares: Vec<Option<Sealed>>,
     pub(crate) next_arrival: u64,
     pub(crate) dropped: u64,
     pub(crate) offered: u64,
@@ -42,14 +45,14 @@ impl Model for Pool {
         record {
           size = p.book.size;
           memory = p.memory.items;
-          slices = map (slice_shown p.memory.items) p.slots.items;
+          slices = map (slice_shown p.memory.items p.shares.items) p.slots.items;
           next_arrival = p.next_arrival;
           dropped = p.dropped;
           offered = p.offered;
         } };
 
     ghost invariant = { λ p.
-        IsPoolKept p.memory.items p.book p.slots.items p.queue p.next_arrival
+        IsPoolKept p.memory.items p.book p.slots.items p.queue p.shares.items p.next_arrival
         (vec_capacity p.slots) };
 }
 
@@ -65,6 +68,7 @@ impl Pool {
             book: Slices::make(alloc, size)?,
             slots: Vec::with_capacity(alloc, SLICES as usize)?,
             queue: Queue::make(alloc)?,
+            shares: sealed::none(alloc)?,
             next_arrival: 0,
             dropped: 0,
             offered: 0,

@@ -2,26 +2,38 @@
 
 ghost use Rattle.std.specs.Prelude.{◌≡◌, ◌<◌, ◌≤◌, ◌%◌, ◌+◌, ◌-◌, ◌++◌, ◌^◌, Some, length};
 ghost use Rattle.kd_acts.specs.Steps.{fill_step, filled, post_step, reserved_length};
-ghost use Rattle.kd_pool.specs.Told.{RefusesLong, offer_answer, bare};
+ghost use Rattle.kd_pool.specs.Told.{RefusesLong, message, offer_answer};
 
 use crate::pool::Pool;
-use crate::{memory, table};
+use crate::{memory, sealed, table};
 use kd_model::{SLICES, SliceNo};
+use kd_seal::Sealed;
 use kd_types::{ConnId, Refusal};
 
 impl Pool {
     /// Writes a message into a reserved slice, `prefix` and then `payload`, and queues it. They
-    /// have the slice's length together, which `reserved` tells.
-    pub fn publish(&mut self, number: SliceNo, prefix: &[u8], payload: &[u8], priority: i64)
-        requires reserved { reserved_length number self.old ≡ Some (length prefix.now + length payload.now) }
+    /// have the slice's length together, which `reserved` tells. The slice holds the message's
+    /// share of sealed bytes, if it takes one along, until it goes.
+    pub fn publish(
+        &mut self,
+        number: SliceNo,
+        prefix: &[u8],
+        payload: &[u8],
+        share: Option<Sealed>,
+        priority: i64,
+    )
+        requires reserved { reserved_length number self.old
+            ≡ Some (length prefix.now + length payload.now) }
         requires count { self.old.next_arrival < 2 ^ 64 - 1 }
-        ensures { self.new ≡ filled number (bare (prefix.now ++ payload.now) priority) self.old }
+        ensures { self.new
+            ≡ filled number (message (prefix.now ++ payload.now) share priority) self.old }
     {
         let Some(slot) = table::find(&self.slots, number) else {
             unreachable!();
         };
         memory::write(&mut self.memory, slot.offset as usize, prefix, payload);
         table::set_queued(&mut self.slots, number, priority, self.next_arrival);
+        sealed::put(&mut self.shares, number, share);
         self.queue.push(number, priority);
         self.next_arrival += 1;
     }
@@ -33,6 +45,7 @@ impl Pool {
         len: u32,
         user: Option<u32>,
         source: ConnId,
+        share: Option<Sealed>,
         priority: i64,
     ) -> Result<SliceNo, Refusal>
         requires some { 0 < len }
@@ -40,8 +53,10 @@ impl Pool {
         requires whole { length image.now ≡ len }
         requires arrivals { self.old.next_arrival < 2 ^ 64 - 1 }
         requires misses { self.old.dropped < 2 ^ 64 - 1 }
-        ensures state { self.new ≡ (fill_step (bare image.now priority) user source self.old).0 }
-        ensures answer { offer_answer result ≡ (fill_step (bare image.now priority) user source self.old).1 }
+        ensures state { self.new
+            ≡ (fill_step (message image.now share priority) user source self.old).0 }
+        ensures answer { offer_answer result
+            ≡ (fill_step (message image.now share priority) user source self.old).1 }
         ensures arrivals { self.new.next_arrival ≤ self.old.next_arrival + 1 }
         ensures misses { self.new.dropped ≤ self.old.dropped + 1 }
     {
@@ -51,7 +66,7 @@ impl Pool {
                 Err(why)
             }
             Ok(number) => {
-                self.publish(number, &[], image, priority);
+                self.publish(number, &[], image, share, priority);
                 Ok(number)
             }
         }
@@ -85,6 +100,6 @@ impl Pool {
             self.miss();
             return Err(why);
         };
-        self.fill(image, len, None, ConnId(0), 0)
+        self.fill(image, len, None, ConnId(0), None, 0)
     }
 }

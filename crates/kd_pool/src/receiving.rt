@@ -8,7 +8,7 @@ ghost use Rattle.kd_pool.specs.Table.{WaitsAsBefore, number_waits};
 ghost use Rattle.kd_pool.specs.Told.{receive_answer};
 
 use crate::pool::Pool;
-use crate::{memory, table};
+use crate::{memory, sealed, table};
 use kd_acts::{Got, Phase, RecvMode, Slot};
 use kd_model::{SliceBook, SliceNo};
 use kd_types::Refusal;
@@ -89,11 +89,11 @@ impl Pool {
         self.book.give_back(number);
         table::take_out(&mut self.slots, number);
         self.queue.take(number);
+        sealed::put(&mut self.shares, number, None);
     }
 
     /// The bytes of a slice that its receiver was told, or of the share of sealed bytes that it
-    /// took along. `NoSuchSlice` for any other number; `NoSuchSeal` where it has no share, and none
-    /// has one yet.
+    /// holds. `NoSuchSlice` for any other number; `NoSuchSeal` where it holds no share.
     pub fn read(&self, alloc: Global, number: SliceNo, sealed: bool) -> Result<Vec<u8>, Refusal>
         ensures bytes { IfOk result (λ v. read_answer number sealed self.now ≡ bytes_of v.items) }
         ensures refused { IfErr result (λ e.
@@ -103,7 +103,10 @@ impl Pool {
             return Err(Refusal::NoSuchSlice);
         };
         if sealed {
-            return Err(Refusal::NoSuchSeal);
+            let Some(bytes) = sealed::bytes(&self.shares, slot.number) else {
+                return Err(Refusal::NoSuchSeal);
+            };
+            return Ok(Vec::from_slice(alloc, bytes)?);
         }
         Ok(memory::copy(alloc, &self.memory, slot.offset as usize, slot.len as usize)?)
     }
@@ -125,7 +128,8 @@ impl Pool {
 
     /// Brings the slice of a number into a phase in which it waits as it did.
     fn set_phase(&mut self, number: SliceNo, phase: Phase)
-        requires { WaitsAsBefore phase number (slots self.old) }
+        requires waits { WaitsAsBefore phase number (slots self.old) }
+        requires taken { phase ≢ Phase.Reserved }
         ensures { self.new ≡ with_phase phase number self.old }
     {
         table::set_phase(&mut self.slots, number, phase);

@@ -1,5 +1,4 @@
 -- Either a slice is reserved and has the message, or a miss is counted.
-use Rattle.std.specs.Prelude.{None}
 use Rattle.std.proofs.Common.{ap, arith, sym, ◌∙◌}
 use Rattle.std.proofs.lemmas.Int.{to_z-of_z}
 use Rattle.kd_pool.proofs.Fills.{fills_none, fills_one, filling_counts, reserving_counts}
@@ -24,10 +23,10 @@ publish-requires-clause-count c =
     omega (arith, counts.arrivals, c.requires.arrivals)
 
 pub returns-in-Err-clause-state : goal.returns-in-Err-clause-state
-returns-in-Err-clause-state c = c.miss.ensures ∙ sym (ap first (fills_none (record { image = c.args.image.now; shared = None; priority = c.args.priority }) c.args.user c.args.source c.args.len c.args.self.now c.reserve.new.self c.in-Err.why c.requires.whole c.reserve.ensures.state c.in-Err.ensures.answer))
+returns-in-Err-clause-state c = c.miss.ensures ∙ sym (ap first (fills_none (record { image = c.args.image.now; shared = c.args.share; priority = c.args.priority }) c.args.user c.args.source c.args.len c.args.self.now c.reserve.new.self c.in-Err.why c.requires.whole c.reserve.ensures.state c.in-Err.ensures.answer))
 
 pub returns-in-Err-clause-answer : goal.returns-in-Err-clause-answer
-returns-in-Err-clause-answer c = sym (ap second (fills_none (record { image = c.args.image.now; shared = None; priority = c.args.priority }) c.args.user c.args.source c.args.len c.args.self.now c.reserve.new.self c.in-Err.why c.requires.whole c.reserve.ensures.state c.in-Err.ensures.answer))
+returns-in-Err-clause-answer c = sym (ap second (fills_none (record { image = c.args.image.now; shared = c.args.share; priority = c.args.priority }) c.args.user c.args.source c.args.len c.args.self.now c.reserve.new.self c.in-Err.why c.requires.whole c.reserve.ensures.state c.in-Err.ensures.answer))
 
 pub returns-in-Err-clause-arrivals : goal.returns-in-Err-clause-arrivals
 returns-in-Err-clause-arrivals c =
@@ -44,10 +43,10 @@ returns-in-Err-clause-misses c =
 pub returns-in-Ok-clause-state : goal.returns-in-Ok-clause-state
 returns-in-Ok-clause-state c =
     let queued = simp (to_z-of_z w64 c.args.priority c.ranges.priority) at c.publish.ensures in
-    queued ∙ sym (ap first (fills_one (record { image = c.args.image.now; shared = None; priority = c.args.priority }) c.args.user c.args.source c.args.len c.in-Ok.number c.args.self.now c.reserve.new.self c.requires.whole c.reserve.ensures.state c.in-Ok.ensures.answer))
+    queued ∙ sym (ap first (fills_one (record { image = c.args.image.now; shared = c.args.share; priority = c.args.priority }) c.args.user c.args.source c.args.len c.in-Ok.number c.args.self.now c.reserve.new.self c.requires.whole c.reserve.ensures.state c.in-Ok.ensures.answer))
 
 pub returns-in-Ok-clause-answer : goal.returns-in-Ok-clause-answer
-returns-in-Ok-clause-answer c = sym (ap second (fills_one (record { image = c.args.image.now; shared = None; priority = c.args.priority }) c.args.user c.args.source c.args.len c.in-Ok.number c.args.self.now c.reserve.new.self c.requires.whole c.reserve.ensures.state c.in-Ok.ensures.answer))
+returns-in-Ok-clause-answer c = sym (ap second (fills_one (record { image = c.args.image.now; shared = c.args.share; priority = c.args.priority }) c.args.user c.args.source c.args.len c.in-Ok.number c.args.self.now c.reserve.new.self c.requires.whole c.reserve.ensures.state c.in-Ok.ensures.answer))
 
 pub returns-in-Ok-clause-arrivals : goal.returns-in-Ok-clause-arrivals
 returns-in-Ok-clause-arrivals c =

@@ -10,4 +10,4 @@ use Rattle.kd_pool.proofs.pool.Pool.reserved.Goals as goal
 pub returns : goal.returns
 returns c =
     let ss = c.self.inside.slots.items in
-    rw (← c.self.view_is) (c.reserved_length.ensures ∙ ap (λ xs. length_reserved (first (slot_numbered c.args.number) xs)) c.deref.ensures.value ∙ sym (reserved_seen _ ss c.args.number _ (slots_shown c.self.inside.memory.items ss) refl))
+    rw (← c.self.view_is) (c.reserved_length.ensures ∙ ap (λ xs. length_reserved (first (slot_numbered c.args.number) xs)) c.deref.ensures.value ∙ sym (reserved_seen _ ss c.args.number _ (slots_shown c.self.inside.memory.items c.self.inside.shares.items ss) refl))

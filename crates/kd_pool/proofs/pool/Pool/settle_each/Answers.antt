@@ -16,7 +16,7 @@ settle_one-requires c = record {
 
 pub rows-preserved : goal.rows-preserved
 rows-preserved c = (
-  settles_on c.args.memory.now c.args.rows.now c.rows.row-index c.row-item.result c.rows.self c.settle_one.new.self c.rows-test.true c.row-item.is c.settle_one.ensures.state ∙ c.rows.invariant.0,
+  settles_on c.args.memory.now c.rows.shares.items c.take-share.new.shares.items c.args.rows.now c.rows.row-index c.row-item.result c.rows.self c.settle_one.new.self c.rows-test.true c.row-item.is c.requires.apart c.take-share.ensures.rest (rw c.take-share.ensures.share at c.settle_one.ensures.state) ∙ c.rows.invariant.0,
   omega (arith, c.rows.invariant.1, c.settle_one.ensures.arrivals),
   omega (arith, c.rows.invariant.2, c.settle_one.ensures.misses),
 )
@@ -24,4 +24,4 @@ rows-preserved c = (
 pub returns : goal.returns
 returns c =
     let none = drop_all c.rows.row-index c.args.rows.now c.rows-test.false in
-    sym (ap (λ xs. settled (map (carried c.args.memory.now) xs) c.rows.self) none) ∙ c.rows.invariant.0
+    sym (ap (λ xs. settled (map (carried c.args.memory.now c.rows.shares.items) xs) c.rows.self) none) ∙ c.rows.invariant.0

@@ -7,5 +7,5 @@ use Rattle.kd_pool.proofs.pool.Pool.settle_each.Given as goal
 
 abbrev pub invariant-rows : goal.invariant-rows
 invariant-rows l =
-    (settled (map (carried l.memory) (drop l.row-index l.rows)) l.self ≡ settled (map (carried l.memory) l.rows) l.initial.self)
+    (settled (map (carried l.memory l.shares.items) (drop l.row-index l.rows)) l.self ≡ settled (map (carried l.memory l.initial.shares.items) l.rows) l.initial.self)
     × (l.self.next_arrival ≤ l.initial.self.next_arrival + l.row-index) × (l.self.dropped ≤ l.initial.self.dropped + l.row-index)

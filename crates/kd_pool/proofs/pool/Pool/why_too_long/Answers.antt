@@ -14,7 +14,7 @@ returns-then-len c = λ len source user long.
     let b = c.self.inside.book in
     let ss = c.self.inside.slots.items in
     let k = c.self.invariant.kept in
-    let book : book_of c.args.self.now ≡ b = sym (ap book_of c.self.view_is) ∙ book_shown c.self.inside.memory.items b ss (vec_capacity c.self.inside.slots) c.self.inside.next_arrival c.self.inside.dropped c.self.inside.offered k in
+    let book : book_of c.args.self.now ≡ b = sym (ap book_of c.self.view_is) ∙ book_shown c.self.inside.memory.items c.self.inside.shares.items b ss (vec_capacity c.self.inside.slots) c.self.inside.next_arrival c.self.inside.dropped c.self.inside.offered k in
     let unspent : unused_number b ≡ None → ⊥ = λ u. let many = all_in_use b u in omega (arith, many, ap length k.tied, length-map ss placed_of) in
     reserves_nowhere c.args.self.now b len source user book unspent (nothing_holds b len k.sound (omega (arith, k.fits, long)))
 
@@ -24,7 +24,7 @@ returns-else-len c = λ len source user long.
     let ss = c.self.inside.slots.items in
     let k = c.self.invariant.kept in
     let room = vec_capacity c.self.inside.slots in
-    let book : book_of c.args.self.now ≡ b = sym (ap book_of c.self.view_is) ∙ book_shown c.self.inside.memory.items b ss room c.self.inside.next_arrival c.self.inside.dropped c.self.inside.offered k in
+    let book : book_of c.args.self.now ≡ b = sym (ap book_of c.self.view_is) ∙ book_shown c.self.inside.memory.items c.self.inside.shares.items b ss room c.self.inside.next_arrival c.self.inside.dropped c.self.inside.offered k in
     let used : (n : ℕ) → unused_number b ≡ Some n → ⊥ = λ n e. let fewer = fewer_slots c.self.inside.memory.items b ss room n k e in omega (arith, fewer) in
     reserves_none c.args.self.now b len source user book (none_is (unused_number b) used)
   where
