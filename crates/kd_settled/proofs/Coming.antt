@@ -213,12 +213,13 @@ there_made labels label places well new free =
         (rw back (ap is_some (get_or-set_same labels i (Some label) None within)))
 
 -- its refusals leave a label and a place
-pub made_there : (d : Desk) (creds : Creds) (is : List WireItem) (p q : Plan) → length d.endpoints ≡ 8 → unless (endpoint_refusals d creds is) q ≡ Ok p
+pub made_there :
+    (d : Desk) (creds : Creds) (is : List WireItem) → length d.endpoints ≡ 8 → AllByRecursion (λ (t : Bool × Refusal). t.0 ≡ false) (endpoint_refusals d creds is)
     → is_there (after_add d.endpoints (label_in is)) (next_endpoint d) ≡ true
 unfolding endpoint_refusals
-made_there d creds is p q places e =
-    let none : AllByRecursion (λ (t : Bool × Refusal). t.0 ≡ false) (endpoint_refusals d creds is) = none_hold (endpoint_refusals d creds is) q p e in
-    there_made d.endpoints (label_in is) places (not-false (is_label (label_in is)) (or_parts (not (is_label (label_in is))) (some_of is_ill_named (entries_in is)) none.0).0) none.1.1.1.0 none.1.1.1.1.1.0
+made_there d creds is places none =
+    there_made d.endpoints (label_in is) places
+    (not-false (is_label (label_in is)) (or_parts (not (is_label (label_in is))) (some_of is_ill_named (entries_in is)) none.0).0) none.1.1.1.0 none.1.1.1.1.1.0
 
 pub made_settled : (d : Desk) (creds : Creds) (is : List WireItem) (p : Plan) → IsSettled d → endpoint_make d creds is ≡ Ok p → Then p
 unfolding endpoint_make with_endpoint
@@ -230,7 +231,7 @@ made_settled d creds is p s e =
       seals = s.seals;
       requests = s.requests;
       policy = put_owned d.conns others d.policy (owner.Endpoint (next_endpoint d)) (entries_in is)
-          (follow_owned d.conns d.conns d.endpoints others d.policy on s.policy) (made_there d creds is p _ s.reached.places e);
+          (follow_owned d.conns d.conns d.endpoints others d.policy on s.policy) (made_there d creds is s.reached.places (none_hold (endpoint_refusals d creds is) _ p e));
     })
   where
     others : Labels

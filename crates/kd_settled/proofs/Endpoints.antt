@@ -89,6 +89,16 @@ places_still labels gone = go (is_number gone)
     go true = length-set labels (gone - 1) None
     go false = refl
 
+none_set : {X : Type 0} (xs : List (Option X)) (i : ℕ) → is_some (get_or (set xs i None) i None) ≡ false
+none_set [] i = refl
+none_set (x ∷ xs) zero = refl
+none_set (x ∷ xs) (suc i) = none_set xs i
+
+-- and that one isn't there any more
+pub gone_then : (labels : Labels) (e : ℕ) → is_there labels e ≡ true → is_there (after_remove labels e) e ≡ false
+unfolding after_remove
+gone_then labels e h = rw (and_parts (is_number e) (is_some (get_or labels (e - 1) None)) h).0 (none_set labels (e - 1))
+
 -- ---- whoever came by them
 
 pub reached_on : (cs : List Conn) (labels : Labels) (label : List ℕ) → AreReached cs labels → AreReached cs (after_add labels label)
@@ -148,7 +158,7 @@ reached_still cs labels e a = record {
 
 -- ---- policy
 
-length_in_order : {X : Type 0} (below : X → X → Bool) (xs : List X) → length (in_order below xs) ≡ length xs
+pub length_in_order : {X : Type 0} (below : X → X → Bool) (xs : List X) → length (in_order below xs) ≡ length xs
 length_in_order below [] = refl
 length_in_order below (x ∷ xs) = omega (arith, length_put below x (in_order below xs), length_in_order below xs)
 

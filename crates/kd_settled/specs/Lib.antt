@@ -7,3 +7,13 @@ pub mod Owners
 pub mod Settled
 -- what its tables have room for, and who is there where something is theirs
 pub mod Room
+-- the caller and all others after a command, and its reply
+pub mod Callers
+-- what the parts of a plan meet
+pub mod Parts
+-- in which order receivers are visited
+pub mod Rising
+-- how long the image of a message can be
+pub mod Lengths
+-- which size each open pool has
+pub mod Sizes

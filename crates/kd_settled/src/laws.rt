@@ -1,5 +1,10 @@
-//! What every plan keeps of a desk, and what follows of it.
+//! What every plan keeps of a desk, what follows of it, and what the parts of a plan meet.
 
+ghost use Rattle.kd_settled.specs.Callers.{CallersAreAtHome, KeepersKeep, LeftSeatsAreFree, OldFreeTheirSeats, OthersStayAtHome, RepliesAnswer};
+ghost use Rattle.kd_settled.specs.Lengths.{AttachedIsShort, ImagesFit};
+ghost use Rattle.kd_settled.specs.Parts.{IdsGoOn, PlansAreShort, VisitsMeetOpen};
+ghost use Rattle.kd_settled.specs.Rising.{AudiencesRise, BroadcastsRise};
+ghost use Rattle.kd_settled.specs.Sizes.{PoolsHaveSizes};
 ghost use Rattle.kd_settled.specs.Room.{FreeSeatsHaveRoom, ManyAreFew, OpensSettled, OwnersAreLive, SettledStays, TablesHaveRoom};
 
 /// A new bus has a settled desk.
@@ -33,4 +38,76 @@ pub fn free_seats_have_room()
 /// The owner of a name is a live connection: an ordinary one by its claim, or an activator.
 pub fn owners_are_live()
     ensures { OwnersAreLive }
+{}
+
+/// An offer, a post, a drain, a settle and a close meet an open pool.
+pub fn visits_meet_open()
+    ensures { VisitsMeetOpen }
+{}
+
+/// When all parts of a plan are visited, each pool has the size that the connection on its seat
+/// asked for, and none is open where nobody sits.
+pub fn pools_have_sizes()
+    ensures { PoolsHaveSizes }
+{}
+
+/// A plan has at most 2^20 parts.
+pub fn plans_are_short()
+    ensures { PlansAreShort }
+{}
+
+/// The next id goes on by one at most.
+pub fn ids_go_on()
+    ensures { IdsGoOn }
+{}
+
+/// An audience stands by rising seat, and so do the posts of one notice.
+pub fn audiences_rise()
+    ensures { AudiencesRise }
+{}
+
+/// The offers of a broadcast stand by rising seat.
+pub fn broadcasts_rise()
+    ensures { BroadcastsRise }
+{}
+
+/// What is attached to a message adds at most 17,744 bytes to its image.
+pub fn attached_is_short()
+    ensures { AttachedIsShort }
+{}
+
+/// The image of a message that isn't too long has at most 83,280 bytes, whatever is attached.
+pub fn images_fit()
+    ensures { ImagesFit }
+{}
+
+/// All others stay at home: they stay who they are or wait to learn that they are gone, and only
+/// its keeper removes an endpoint.
+pub fn others_stay_at_home()
+    ensures { OthersStayAtHome }
+{}
+
+/// Whatever the caller becomes, it is at home.
+pub fn callers_are_at_home()
+    ensures { CallersAreAtHome }
+{}
+
+/// A keeper keeps its endpoint, or it is none any more and the endpoint is gone.
+pub fn keepers_keep()
+    ensures { KeepersKeep }
+{}
+
+/// A seat that its caller left is free.
+pub fn left_seats_are_free()
+    ensures { LeftSeatsAreFree }
+{}
+
+/// A connection of a bus that was removed since frees its own seat, and nothing else changes.
+pub fn old_free_their_seats()
+    ensures { OldFreeTheirSeats }
+{}
+
+/// Each reply is one of its command's.
+pub fn replies_answer()
+    ensures { RepliesAnswer }
 {}

@@ -12,11 +12,16 @@
 //!
 //! - `specs/Settled`: the invariant
 //! - `specs/Room`: what follows of it, that every plan keeps it, and that a new bus has it
+//! - `specs/Callers`: the caller and all others after a command, and its reply
+//! - `specs/Parts`, `specs/Sizes`: what the parts of a plan meet
+//! - `specs/Rising`, `specs/Lengths`: in which order receivers are visited, and how long images are
 #![tactic(auto)]
 
 mod laws;
 
 pub use laws::{
-    a_new_desk_is_settled, free_seats_have_room, many_are_few, owners_are_live, tables_have_room,
-    the_desk_stays_settled,
+    a_new_desk_is_settled, attached_is_short, audiences_rise, broadcasts_rise, callers_are_at_home,
+    free_seats_have_room, ids_go_on, images_fit, keepers_keep, left_seats_are_free, many_are_few,
+    old_free_their_seats, others_stay_at_home, owners_are_live, plans_are_short, pools_have_sizes,
+    replies_answer, tables_have_room, the_desk_stays_settled, visits_meet_open,
 };

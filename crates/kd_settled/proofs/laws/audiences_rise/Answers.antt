@@ -1,0 +1,6 @@
+-- As connections stand.
+use Rattle.kd_settled.proofs.Rising as rising
+use Rattle.kd_settled.proofs.laws.audiences_rise.Goals as goal
+
+pub returns : goal.returns
+returns c = rising.audiences_rise
