@@ -5,7 +5,8 @@ use Rattle.std.proofs.lemmas.List.{append-nil}
 use mathlib.Core.Logic.{dite}
 use native.Mathlib.Decide.{ℕ_discrete}
 use Rattle.kd_model.proofs.Truth.{no_some, same_some}
-use Rattle.kd_acts.specs.State.{Answer, Image, Visit, by_desk}
+use Rattle.kd_acts.specs.State.{Answer, Hold, Image, Visit, by_desk, close, done}
+use Rattle.kd_acts.specs.Steps.{answer, pool_step}
 use Rattle.kd_commands.specs.Plans.{Part}
 use Rattle.kd_commands.specs.Visits.{images_in, met, next_part, parts_visited}
 use Rattle.kd_world.specs.Addressed.{acts_at, at_seat}
@@ -74,3 +75,8 @@ acts_visited c is (p ∷ ps) (o ∷ outs) =
 pub addressed_as_planned : AddressedAsPlanned
 unfolding addressed_by
 addressed_as_planned c s pass l = acts_visited c [] (parts_left s l) l.outs
+
+-- a pool that is closed with force answers so, whatever waits in it
+pub forced_is_done : (h : Hold) → answer h (by_desk (close true)) ≡ done
+unfolding pool_step
+forced_is_done h = refl

@@ -26,10 +26,12 @@ abbrev pub hand_received : RecvMode → Answer → List ℕ → List ℕ
 hand_received mode (got n offset len dropped) hand = cond (hands_over mode) (n ∷ hand) hand
 hand_received mode _ hand = hand
 
+-- no other act changes a hand
 abbrev pub hand_by_act : Act → Answer → List ℕ → List ℕ
 hand_by_act (receive mode) a hand = hand_received mode a hand
 hand_by_act _ a hand = hand
 
+-- the hand of a lock after an entry on it
 unfoldable pub hand_by : Turn → List ℕ → List ℕ
 hand_by (did d) hand = hand_by_act d.act d.answer hand
 hand_by (left l) hand = hand
@@ -37,6 +39,7 @@ hand_by (started b) hand = hand
 hand_by (removed generation) hand = hand
 hand_by idle hand = hand
 
+-- whichever lock it is
 abbrev pub hand_after : ℕ → Turn → List ℕ → List ℕ
 hand_after l e hand = hand_by e hand
 
@@ -46,5 +49,6 @@ emptied_by (departs s) = Some (suc s)
 emptied_by (arrives generation id s) = None
 emptied_by stays = None
 
+-- of an entry of the desk, the lock whose hand it empties
 abbrev pub empties : Turn → Option ℕ
 empties e = emptied_by (move_of e)

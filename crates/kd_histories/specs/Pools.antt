@@ -15,6 +15,7 @@ visit_sweeps (close force) = false
 visit_sweeps drain = false
 visit_sweeps _ = true
 
+-- no other act does
 abbrev pub act_sweeps : Act → Bool
 act_sweeps (by_desk v) = visit_sweeps v
 act_sweeps _ = false
@@ -56,6 +57,7 @@ hold_freed (n ∷ ns) h = hold_freed ns (after h (free n))
 abbrev pub hold_met : Did → Hold → Hold
 hold_met d h = hold_freed d.freed h
 
+-- the pool after an entry
 unfoldable pub hold_after : Turn → Hold → Hold
 hold_after (did d) h = after (hold_met d h) d.act
 hold_after (left l) h = h
@@ -63,6 +65,7 @@ hold_after (started b) h = h
 hold_after (removed generation) h = h
 hold_after idle h = h
 
+-- and along a list
 unfoldable pub hold_from : Hold → List (ℕ × Turn) → Hold
 hold_from h [] = h
 hold_from h (x ∷ xs) = hold_from (hold_after x.1 h) xs
@@ -80,6 +83,7 @@ pub record IsDone (h : Hold) (d : Did) : Type 0 where
   pub sweeps : act_sweeps d.act ≡ false → d.freed ≡ []
   pub answer : d.answer ≡ answer (hold_met d h) d.act
 
+-- no other entry stands in a pool's list but one that does nothing
 unfoldable pub IsDoneTurn : Hold → Turn → Type 0
 IsDoneTurn h (did d) = IsDone h d
 IsDoneTurn h (left l) = Unit {0}

@@ -28,6 +28,7 @@ use Rattle.kd_histories.specs.Tie.{Tie}
 abbrev pub BusFact : Locks Turn → Type 0
 BusFact = Fact Tie lends out keeper
 
+-- what an entry on a lock owes it
 abbrev pub OwesPut : View Turn → ℕ → Turn → Type 0
 OwesPut v l e = Owes BusFact (hands_after hand_after empties) v l e
 
@@ -46,6 +47,7 @@ pub record Visits (s : ℕ) (vis : Visit) (d : Did) (v : View Turn) : Type 0 whe
       → (sitter s (part v 0).seen ≡ None)
       × ((n : ℕ) → n < 256 → is_word_of n (part v (suc s)).swept ≡ true)
 
+-- then the entry may be put
 abbrev pub VisitsMayBePut : Type 0
 VisitsMayBePut =
     (s : ℕ) (vis : Visit) (d : Did) (v : View Turn) → Visits s vis d v → OwesPut v (suc s) (did d)

@@ -28,6 +28,7 @@ departure s (who.Conn id seat) = stays
 departure s (who.Old seat) = stays
 departure s _ = departs s
 
+-- what whoever was the one and is the other then does
 abbrev pub moved : ℕ → WhoKind → WhoKind → Move
 moved generation who.Fresh now = arrival generation now
 moved generation (who.Conn id s) now = departure s now
@@ -47,6 +48,7 @@ sitter_after c j (arrives generation id s) k =
 sitter_after c j (departs s) k = cond (s == c) None k
 sitter_after c j stays k = k
 
+-- and along a list
 unfoldable pub sitter_from : ℕ → Option Sitter → List (ℕ × Turn) → Option Sitter
 sitter_from c k [] = k
 sitter_from c k (x ∷ xs) = sitter_from c (sitter_after c x.0 (move_of x.1) k) xs
@@ -84,6 +86,7 @@ IsOpenTo c (arrives generation id s) k = (s == c) ≡ true → k ≡ None
 IsOpenTo c (departs s) k = Unit {0}
 IsOpenTo c stays k = Unit {0}
 
+-- an entry that the pass j made, where this one sits at c
 unfoldable pub IsFair : ℕ → ℕ → Turn → Option Sitter → Type 0
 IsFair c j (left l) k =
     IsAt c l.generation j l.who.member k

@@ -88,6 +88,7 @@ slot_after (removed generation) s =
 slot_after (did d) s = s
 slot_after idle s = s
 
+-- and along a list
 unfoldable pub slot_from : Slot → List (ℕ × Turn) → Slot
 slot_from s [] = s
 slot_from s (x ∷ xs) = slot_from (slot_after x.1 s) xs

@@ -23,10 +23,11 @@ visits_at c (p ∷ ps) (o ∷ outs) = visit_at c p o ++ visits_at c ps outs
 
 -- ---- what the desk's list addresses
 
--- by rising seat the pool of each connection is closed, whatever waits in it, and that is done
+-- by rising seat the pool of each connection is closed, whatever waits in it
 abbrev pub closings : Desk → List Part
 closings d = map (closing true) d.conns
 
+-- which no pool refuses
 abbrev pub all_done : Desk → List Answer
 all_done d = map (λ (c : Conn). done) d.conns
 
@@ -39,6 +40,7 @@ addressed_by c s (removed generation) = visits_at c (closings s.desk) (all_done 
 addressed_by c s (did d) = []
 addressed_by c s idle = []
 
+-- and a list, from a slot on
 unfoldable pub addressed : ℕ → Slot → List (ℕ × Turn) → List (Visit × Answer)
 addressed c s [] = []
 addressed c s (x ∷ xs) = addressed_by c s x.1 ++ addressed c (slot_after x.1 s) xs
@@ -52,14 +54,17 @@ AddressedAsPlanned =
 
 -- ---- what a pool's list has of it
 
+-- an act is a visit, or none
 unfoldable pub visit_made : Act → Answer → List (Visit × Answer)
 visit_made (by_desk v) a = (v, a) ∷ []
 visit_made _ a = []
 
+-- so is an entry
 unfoldable pub made_by_turn : Turn → List (Visit × Answer)
 made_by_turn (did d) = visit_made d.act d.answer
 made_by_turn _ = []
 
+-- the visits of a list
 unfoldable pub visits_made : List (ℕ × Turn) → List (Visit × Answer)
 visits_made [] = []
 visits_made (x ∷ xs) = made_by_turn x.1 ++ visits_made xs
