@@ -9,15 +9,15 @@ use Rattle.std.proofs.lemmas.List.Sums.{sum_by-cons}
 use Rattle.kd_model.proofs.Least.{all_of_least}
 use Rattle.kd_model.proofs.Lists.{all_follow, all_under, map_of_filter}
 use Rattle.kd_model.proofs.Places.{HasRoom, gaps_have_room, sound_empty, sound_with, sound_without, unused_below, unused_is_free}
-use Rattle.kd_model.specs.Slices.{AreInOrder, best_gap, gaps, has_number, has_same_number, is_better, is_lower, place, slice_end, unused_number}
+use Rattle.kd_model.specs.Slices.{AreInOrder, best_gap, gaps, has_number, has_same_number, is_better, is_lower, place, slice_end, unused_number, used}
 use Rattle.kd_model.specs.Words.{but_those, contains, put_in_order, some_of}
 use Rattle.kd_model.specs.declared.placed.Gap.{Gap}
 use Rattle.kd_model.specs.declared.placed.Placed.{Placed}
 use Rattle.kd_model.specs.declared.slice_no.TheConstants.{SLICES}
-use Rattle.kd_links.specs.Chains.{AllBut, Chained, no_span, put_behind}
-use Rattle.kd_links.specs.Kept.{IsBehind, IsKept, IsLinked, chain_book, slice_of, slices_of}
+use Rattle.kd_links.specs.Chains.{AllBut, Apart, Chained, no_span, put_behind}
+use Rattle.kd_links.specs.Kept.{IsBehind, IsKept, chain_book, slice_of, slices_of}
 use Rattle.kd_links.specs.declared.node.Span.{Span}
-use Rattle.kd_links.specs.declared.node.TheConstants.{START}
+use Rattle.kd_links.specs.declared.node.TheConstants.{GAPS, NODES, START}
 use Rattle.kd_links.proofs.Linked.{all_but, differ, equal, itself, not_in, without}
 use Rattle.kd_links.proofs.Rings.{holds_in, later, later_in}
 
@@ -91,6 +91,16 @@ numbers_below sp xs a = all_under (λ (s : Placed). s.number < SLICES) (slice_of
 pub start_out : (size : ℕ) (c : Chained) → IsKept size c → AllBut START c.order
 start_out size c k = all_follow (λ n. n < SLICES) (λ n. n ≢ START) c.order (λ n h e. omega arith) (numbers_below c.spans c.order k.sound.numbers)
 
+apart_of : (sp : List Span) (xs : List ℕ) → IsDistinct has_same_number (map (slice_of sp) xs) → Apart xs
+unfolding IsDistinct
+apart_of sp [] d = tt
+apart_of sp (x ∷ xs) d =
+    (all_follow (λ k. nat_eq x k ≡ false) (λ k. k ≢ x) xs (λ k e s. differ x k e (sym s)) (all_under (λ (t : Placed). has_same_number (slice_of sp x) t ≡ false) (slice_of sp) xs d.0), apart_of sp xs d.1)
+
+-- the start and the numbers in order differ from one another
+pub kept_apart : (size : ℕ) (c : Chained) → IsKept size c → Apart (START ∷ c.order)
+kept_apart size c k = (start_out size c k, apart_of c.spans c.order k.sound.distinct)
+
 -- a slice has some bytes
 filled : (f : ℕ → Placed) (from size n : ℕ) (xs : List ℕ) → AreInOrder from size (map f xs) → contains n xs ≡ true → 0 < (f n).len
 filled f from size n [] o h = absurd (true≢false (sym h))
@@ -101,12 +111,12 @@ filled f from size n (x ∷ xs) o h = go (filled f (slice_end (f x)) size n xs o
     go more false e h = more h
 
 -- a number is used where its span has some bytes
-pub used_is : (size : ℕ) (c : Chained) (n : ℕ) → IsKept size c → nat_lt 0 (slice_of c.spans n).len ≡ some_of (has_number n) (slices_of c)
-used_is size c n k = go (contains n c.order) refl ∙ sym (number_in c.spans n c.order)
+pub used_is : (size : ℕ) (c : Chained) (n : ℕ) → IsKept size c → n ≤ START → nat_lt 0 (slice_of c.spans n).len ≡ some_of (has_number n) (slices_of c)
+used_is size c n k low = go (contains n c.order) refl ∙ sym (number_in c.spans n c.order)
   where
     go : (b : Bool) → contains n c.order ≡ b → nat_lt 0 (slice_of c.spans n).len ≡ contains n c.order
     go true e = let some = filled (slice_of c.spans) 0 size n c.order k.sound.order e in rw e (grind (arith, nat_tests))
-    go false e = let none : (slice_index_or c.spans n no_span).len ≡ 0 = ap (λ (s : Span). s.len) (k.unused n e) in rw e (grind (arith, nat_tests))
+    go false e = let none : (slice_index_or c.spans n no_span).len ≡ 0 = ap (λ (s : Span). s.len) (k.unused n low e) in rw e (grind (arith, nat_tests))
 
 first_of : (sp : List Span) (n : ℕ) (xs : List ℕ) → find (has_number n) (map (slice_of sp) xs) ≡ cond (contains n xs) (Some (slice_of sp n)) None
 first_of sp n [] = refl
@@ -116,18 +126,24 @@ first_of sp n (x ∷ xs) = go (first_of sp n xs) (nat_eq n x) refl
     go more true e = let test : nat_eq x n ≡ true = grind (arith, nat_tests) in rw test (ap (λ k. Some (slice_of sp k)) (sym (equal n x e)))
     go more false e = let test : nat_eq x n ≡ false = grind (arith, nat_tests) in rw test more
 
+-- no slice has a number beyond those of slices
+pub none_at : (size : ℕ) (c : Chained) (n : ℕ) → IsKept size c → SLICES ≤ n → find (has_number n) (slices_of c) ≡ None
+none_at size c n k h =
+    let apart : AllBut n c.order = all_follow (λ m. m < SLICES) (λ m. m ≢ n) c.order (λ m lt e. omega arith) (numbers_below c.spans c.order k.sound.numbers) in
+    first_of c.spans n c.order ∙ ap (λ b. cond b (Some (slice_of c.spans n)) None) (not_in n c.order apart)
+
 -- the slice of a number with some bytes, none for one without
-pub entry_is : (size : ℕ) (c : Chained) (n : ℕ) (b : Bool) → IsKept size c → nat_lt 0 (slice_of c.spans n).len ≡ b → find (has_number n) (slices_of c) ≡ cond b (Some (slice_of c.spans n)) None
-entry_is size c n b k e =
-    let same : contains n c.order ≡ b = sym (number_in c.spans n c.order) ∙ sym (used_is size c n k) ∙ e in
+pub entry_is : (size : ℕ) (c : Chained) (n : ℕ) (b : Bool) → IsKept size c → n ≤ START → nat_lt 0 (slice_of c.spans n).len ≡ b → find (has_number n) (slices_of c) ≡ cond b (Some (slice_of c.spans n)) None
+entry_is size c n b k low e =
+    let same : contains n c.order ≡ b = sym (number_in c.spans n c.order) ∙ sym (used_is size c n k low) ∙ e in
     first_of c.spans n c.order ∙ ap (λ b. cond b (Some (slice_of c.spans n)) None) same
 
 -- ---- one slice more
 
-others_kept : (sp : List Span) (n : ℕ) (s : Span) (xs : List ℕ) → AllBut n xs → AllByRecursion (λ k. slice_of (set sp n s) k ≡ slice_of sp k) xs
+pub others_kept : (sp : List Span) (n : ℕ) (s : Span) (xs : List ℕ) → AllBut n xs → AllByRecursion (λ k. slice_of (set sp n s) k ≡ slice_of sp k) xs
 others_kept sp n s xs a = all_follow (λ k. k ≢ n) (λ k. slice_of (set sp n s) k ≡ slice_of sp k) xs (λ k h. ap (λ (t : Span). record { number = k; offset = t.offset; len = t.len }) (get_or-set_other sp n k s no_span h)) a
 
-still_out : (p n e k : ℕ) (xs : List ℕ) → AllBut k (put_behind p n e xs) → AllBut k xs
+pub still_out : (p n e k : ℕ) (xs : List ℕ) → AllBut k (put_behind p n e xs) → AllBut k xs
 still_out p n e k [] a = tt
 still_out p n e k (x ∷ xs) a = go (still_out p n x k xs) (nat_eq e p) a
   where
@@ -135,7 +151,7 @@ still_out p n e k (x ∷ xs) a = go (still_out p n x k xs) (nat_eq e p) a
     go more true a = a.1
     go more false a = (a.0, more a.1)
 
-put_there : (p n e : ℕ) (xs : List ℕ) → contains p (e ∷ xs) ≡ true → contains n (put_behind p n e xs) ≡ true
+pub put_there : (p n e : ℕ) (xs : List ℕ) → contains p (e ∷ xs) ≡ true → contains n (put_behind p n e xs) ≡ true
 put_there p n e [] h = go (nat_eq e p) refl
   where
     go : (t : Bool) → nat_eq e p ≡ t → contains n (elim t [ true ↦ n ∷ [] | false ↦ [] ]) ≡ true
@@ -156,7 +172,7 @@ pub record IsPlace (size : ℕ) (c : Chained) (p n len : ℕ) (g : Gap) : Type 0
   pub behind : IsBehind c p g
 
 abbrev pub with_one : Chained → ℕ → ℕ → Span → Chained
-with_one c p n s = record { order = put_behind p n START c.order; spans = set c.spans n s }
+with_one c p n s = record { order = put_behind p n START c.order; gaps = c.gaps; spans = set c.spans n s }
 
 -- an unused number is neither the start nor in the order, and has a span
 pub record IsFree (c : Chained) (n : ℕ) : Type 0 where
@@ -176,7 +192,7 @@ free size c n k h =
 
 -- the start has no bytes
 pub start_ends : (size : ℕ) (c : Chained) → IsKept size c → slice_end (slice_of c.spans START) ≡ 0
-start_ends size c k = ap (λ (s : Span). s.offset + s.len) (k.unused START (not_in START c.order (start_out size c k)))
+start_ends size c k = ap (λ (s : Span). s.offset + s.len) (k.unused START (omega arith) (not_in START c.order (start_out size c k)))
 
 -- a chain with one slice more
 pub record IsOneMore (size : ℕ) (c : Chained) (new : Placed) (c' : Chained) : Type 0 where
@@ -200,10 +216,10 @@ kept_with size c p n len g k w =
         fits = k.fits;
         sound = rw slices sound;
         count = length-set c.spans n span ∙ k.count;
-        unused = λ m h.
+        unused = λ m low h.
             let out : AllBut m (put_behind p n START c.order) = all_but m (put_behind p n START c.order) h in
             let other : m ≢ n = λ e. true≢false (sym there ∙ ap (λ i. contains i (put_behind p n START c.order)) (sym e) ∙ h) in
-            get_or-set_other c.spans n m span no_span other ∙ k.unused m (not_in m c.order (still_out p n START m c.order out));
+            get_or-set_other c.spans n m span no_span other ∙ k.unused m low (not_in m c.order (still_out p n START m c.order out));
       };
       slices = slices;
     }
@@ -211,9 +227,9 @@ kept_with size c p n len g k w =
 -- ---- one slice less
 
 abbrev pub without_one : Chained → ℕ → Chained
-without_one c n = record { order = without n c.order; spans = set c.spans n no_span }
+without_one c n = record { order = without n c.order; gaps = c.gaps; spans = set c.spans n no_span }
 
-all_without : (n : ℕ) (xs : List ℕ) → AllBut n (without n xs)
+pub all_without : (n : ℕ) (xs : List ℕ) → AllBut n (without n xs)
 all_without n [] = tt
 all_without n (x ∷ xs) = go (all_without n xs) (nat_eq x n) refl
   where
@@ -221,7 +237,7 @@ all_without n (x ∷ xs) = go (all_without n xs) (nat_eq x n) refl
     go more true e = more
     go more false e = (differ x n e, more)
 
-out_before : (n m : ℕ) (xs : List ℕ) → m ≢ n → AllBut m (without n xs) → AllBut m xs
+pub out_before : (n m : ℕ) (xs : List ℕ) → m ≢ n → AllBut m (without n xs) → AllBut m xs
 out_before n m [] h a = tt
 out_before n m (x ∷ xs) h a = go (out_before n m xs h) (nat_eq x n) refl a
   where
@@ -244,33 +260,35 @@ kept_without size c n k h =
         fits = k.fits;
         sound = rw slices sound;
         count = length-set c.spans n no_span ∙ k.count;
-        unused = λ m e. go m (all_but m (without n c.order) e) (nat_eq m n) refl;
+        unused = λ m low e. go m low (all_but m (without n c.order) e) (nat_eq m n) refl;
       };
       slices = slices;
     }
   where
-    go : (m : ℕ) → AllBut m (without n c.order) → (t : Bool) → nat_eq m n ≡ t → slice_index_or (set c.spans n no_span) m no_span ≡ no_span
-    go m a true e =
+    go : (m : ℕ) → m ≤ START → AllBut m (without n c.order) → (t : Bool) → nat_eq m n ≡ t → slice_index_or (set c.spans n no_span) m no_span ≡ no_span
+    go m low a true e =
         let below : n < SLICES = holds_in (λ k. k < SLICES) n c.order (numbers_below c.spans c.order k.sound.numbers) h in
         let inside : n < length c.spans = omega (arith, k.count) in
         ap (λ i. slice_index_or (set c.spans n no_span) i no_span) (equal m n e) ∙ get_or-set_same c.spans n no_span no_span inside
-    go m a false e =
-        get_or-set_other c.spans n m no_span no_span (differ m n e) ∙ k.unused m (not_in m c.order (out_before n m c.order (differ m n e) a))
+    go m low a false e =
+        get_or-set_other c.spans n m no_span no_span (differ m n e) ∙ k.unused m low (not_in m c.order (out_before n m c.order (differ m n e) a))
 
 -- a chain of no slices
-pub kept_empty : (size : ℕ) (c : Chained) → size < 2 ^ 32 → size % 8 ≡ 0 → c.order ≡ [] → c.spans ≡ replicate (START + 1) no_span → IsKept size c
-kept_empty size c fits even none spans =
+pub kept_empty : (size : ℕ) (c : Chained) → size < 2 ^ 32 → size % 8 ≡ 0 → c.order ≡ [] → length c.spans ≡ NODES → ((n : ℕ) → n ≤ START → slice_index_or c.spans n no_span ≡ no_span) → IsKept size c
+kept_empty size c fits even none count unused =
     record {
       fits = fits;
       sound = rw none (sound_empty size even);
-      count = ap length spans ∙ length-replicate (START + 1) no_span;
-      unused = λ n h. ap (λ l. slice_index_or l n no_span) spans ∙ replicated (START + 1) n;
+      count = count;
+      unused = λ n low h. unused n low;
     }
-  where
-    replicated : (m n : ℕ) → slice_index_or (replicate m no_span) n no_span ≡ no_span
-    replicated zero n = refl
-    replicated (suc m) zero = refl
-    replicated (suc m) (suc n) = replicated m n
+
+abbrev chained : List ℕ → List ℕ → List Span → Chained
+chained o g s = record { order = o; gaps = g; spans = s }
+
+-- chains of the same order, gaps and spans
+pub same_chain : (c d : Chained) → c.order ≡ d.order → c.gaps ≡ d.gaps → c.spans ≡ d.spans → c ≡ d
+same_chain c d e f g = ap (λ o. chained o c.gaps c.spans) e ∙ ap (λ h. chained d.order h c.spans) f ∙ ap (chained d.order d.gaps) g
 
 -- ---- how many bytes the slices take
 
@@ -304,39 +322,47 @@ pub total_within : (from size : ℕ) (ss : List Placed) → AreInOrder from size
 total_within from size [] o = omega arith
 total_within from size (s ∷ ss) o = let rest = total_within (slice_end s) size ss o.2 in rw sum_by-cons (omega arith)
 
-abbrev chained : List ℕ → List Span → Chained
-chained o s = record { order = o; spans = s }
-
--- chains of one order and the same spans
-pub same_chain : (c d : Chained) → c.order ≡ d.order → c.spans ≡ d.spans → c ≡ d
-same_chain c d e f = ap (λ o. chained o c.spans) e ∙ ap (chained d.order) f
-
--- a book with one slice more
-pub linked_with : (size bytes : ℕ) (c : Chained) (p n len : ℕ) (g : Gap) → IsLinked size bytes c → IsPlace size c p n len g → IsLinked size (bytes + len) (with_one c p n (record { offset = g.start; len = len }))
-linked_with size bytes c p n len g k w =
-    let m = kept_with size c p n len g k.kept w in
-    let new : Placed = record { number = n; offset = g.start; len = len } in
-    let sum = ap (sum_by (λ (t : Placed). t.len)) m.slices ∙ sum_with new (slices_of c) in
-    record { kept = m.kept; total = omega (arith, sum, k.total) }
-
 -- its bytes lie within the pool
-pub bytes_within : (size bytes : ℕ) (c : Chained) → IsLinked size bytes c → bytes ≤ size
-bytes_within size bytes c k = omega (arith, k.total, total_within 0 size (slices_of c) k.kept.sound.order)
+pub bytes_within : (size : ℕ) (c : Chained) → IsKept size c → used (chain_book size c) ≤ size
+bytes_within size c k = omega (arith, total_within 0 size (slices_of c) k.sound.order)
+
+-- how many bytes the slices take with one more
+pub bytes_with : (size : ℕ) (c : Chained) (new : Placed) (c' : Chained) → IsOneMore size c new c' → used (chain_book size c') ≡ used (chain_book size c) + new.len
+bytes_with size c new c' m = let sum = ap (sum_by (λ (t : Placed). t.len)) m.slices ∙ sum_with new (slices_of c) in omega (arith, sum)
 
 -- a number in the order has its slice
 pub slice_in : (size : ℕ) (c : Chained) (n : ℕ) → IsKept size c → contains n c.order ≡ true → find (has_number n) (slices_of c) ≡ Some (slice_of c.spans n)
 slice_in size c n k h = first_of c.spans n c.order ∙ ap (λ b. cond b (Some (slice_of c.spans n)) None) h
 
--- the bytes of one slice and of the others
-pub bytes_without : (size bytes : ℕ) (c : Chained) (n : ℕ) → IsLinked size bytes c → contains n c.order ≡ true → sum_by (λ (t : Placed). t.len) (but_those (has_number n) (slices_of c)) + (slice_of c.spans n).len ≡ bytes
-bytes_without size bytes c n k h = sum_without n (slice_of c.spans n) (slices_of c) k.kept.sound.distinct (slice_in size c n k.kept h) ∙ sym k.total
-
--- a book with one slice less
-pub linked_without : (size bytes : ℕ) (c : Chained) (n : ℕ) → IsLinked size bytes c → contains n c.order ≡ true → IsLinked size (bytes - (slice_of c.spans n).len) (without_one c n)
-linked_without size bytes c n k h =
-    let m = kept_without size c n k.kept h in
+-- and with one less
+pub bytes_without : (size : ℕ) (c : Chained) (n : ℕ) (c' : Chained) → IsKept size c → contains n c.order ≡ true → IsOneLess size c n c' → used (chain_book size c') + (slice_of c.spans n).len ≡ used (chain_book size c)
+bytes_without size c n c' k h m =
     let sum = ap (sum_by (λ (t : Placed). t.len)) m.slices in
-    record { kept = m.kept; total = omega (arith, sum, bytes_without size bytes c n k h) }
+    omega (arith, sum, sum_without n (slice_of c.spans n) (slices_of c) k.sound.distinct (slice_in size c n k h))
+
+-- ---- a gap's span is changed
+
+-- a slice's span stands apart from those of gaps
+pub slice_apart : (sp : List Span) (i : ℕ) (s : Span) (k : ℕ) → k ≤ START → slice_of (set sp (GAPS + i) s) k ≡ slice_of sp k
+slice_apart sp i s k low = ap (λ (t : Span). record { number = k; offset = t.offset; len = t.len }) (get_or-set_other sp (GAPS + i) k s no_span (λ e. omega arith))
+
+pub record IsSame (size : ℕ) (c c' : Chained) : Type 0 where
+  pub kept : IsKept size c'
+  pub slices : slices_of c' ≡ slices_of c
+
+pub kept_refiled : (size : ℕ) (c c' : Chained) (i : ℕ) (s : Span) → IsKept size c → c'.order ≡ c.order → c'.spans ≡ set c.spans (GAPS + i) s → IsSame size c c'
+kept_refiled size c c' i s k o e =
+    let each : AllByRecursion (λ n. slice_of (set c.spans (GAPS + i) s) n ≡ slice_of c.spans n) c.order = all_follow (λ n. n < SLICES) (λ n. slice_of (set c.spans (GAPS + i) s) n ≡ slice_of c.spans n) c.order (λ n h. slice_apart c.spans i s n (omega arith)) (numbers_below c.spans c.order k.sound.numbers) in
+    let slices : slices_of c' ≡ slices_of c = ap (λ l. map (slice_of l) c'.order) e ∙ ap (map (slice_of (set c.spans (GAPS + i) s))) o ∙ same_map (slice_of c.spans) (slice_of (set c.spans (GAPS + i) s)) c.order each in
+    record {
+      kept = record {
+        fits = k.fits;
+        sound = rw slices k.sound;
+        count = ap length e ∙ length-set c.spans (GAPS + i) s ∙ k.count;
+        unused = λ n low h. ap (λ l. slice_index_or l n no_span) e ∙ get_or-set_other c.spans (GAPS + i) n s no_span (λ same. omega arith) ∙ k.unused n low (ap (contains n) (sym o) ∙ h);
+      };
+      slices = slices;
+    }
 
 -- a number that has a slice is placed
 pub found_is_placed : (f : Placed → ℕ × ℕ) (n : ℕ) (ss : List Placed) → is_some (option_map f (find (has_number n) ss)) ≡ true → some_of (has_number n) ss ≡ true

@@ -1,5 +1,12 @@
 pub mod Writes
 pub mod Linked
 pub mod Rings
+pub mod Pairs
+pub mod Made
 pub mod Books
+pub mod Filed
+pub mod Marks
+pub mod Filling
+pub mod Lying
+pub mod Placing
 pub mod Steps

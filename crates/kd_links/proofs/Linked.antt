@@ -5,7 +5,7 @@ use Rattle.std.proofs.Common.{ap, arith, sym, ◌∙◌, subst, suc, zero}
 use Rattle.std.proofs.lemmas.Bool.{true≢false}
 use Rattle.std.proofs.lemmas.Bool.Decides.{nat_tests}
 use Rattle.kd_model.specs.Words.{but_those, contains}
-use Rattle.kd_links.specs.Chains.{AllBut, Apart, Linked, put_behind, walk}
+use Rattle.kd_links.specs.Chains.{AllBut, Apart, Linked, before, put_behind, walk}
 
 pub differ : (a b : ℕ) → nat_eq a b ≡ false → a ≢ b
 differ a b e = λ same. grind (arith, nat_tests)
@@ -182,3 +182,21 @@ previous_holds P f g p from (x ∷ xs) upto l h a q = go (λ i. previous_holds P
     go : (contains p xs ≡ true → P (g p)) → (t : Bool) → nat_eq p x ≡ t → (t || contains p xs) ≡ true → P (g p)
     go more true e h = subst P (sym (ap g (equal p x e) ∙ l.1)) q
     go more false e h = more h
+
+-- numbers that a change leaves as they were stay linked
+pub linked_kept : (f g f' g' : ℕ → ℕ) (from : ℕ) (xs : List ℕ) (upto : ℕ) → Linked f g from xs upto → AllByRecursion (λ k. f' k ≡ f k) (from ∷ xs) → AllByRecursion (λ k. g' k ≡ g k) xs → g' upto ≡ g upto → Linked f' g' from xs upto
+linked_kept f g f' g' from [] upto l a b e = (a.0 ∙ l.0, e ∙ l.1)
+linked_kept f g f' g' from (x ∷ xs) upto l a b e = (a.0 ∙ l.0, b.0 ∙ l.1, linked_kept f g f' g' x xs upto l.2 a.1 b.1 e)
+
+-- the number before one of them, and the last, which stands before the end
+pub before_is : (f g : ℕ → ℕ) (p from : ℕ) (xs : List ℕ) (upto : ℕ) → Linked f g from xs upto → contains p xs ≡ true → g p ≡ before p from xs
+before_is f g p from [] upto l h = absurd (true≢false (sym h))
+before_is f g p from (x ∷ xs) upto l h = go (before_is f g p x xs upto l.2) (nat_eq x p) refl
+  where
+    go : (contains p xs ≡ true → g p ≡ before p x xs) → (t : Bool) → nat_eq x p ≡ t → g p ≡ elim t [ true ↦ from | false ↦ before p x xs ]
+    go more true e = ap g (sym (equal x p e)) ∙ l.1
+    go more false e = let other : nat_eq p x ≡ false = grind (arith, nat_tests) in more (rw other at h)
+
+pub last_is : (f g : ℕ → ℕ) (from : ℕ) (xs : List ℕ) (upto : ℕ) → Linked f g from xs upto → AllBut upto xs → g upto ≡ before upto from xs
+last_is f g from [] upto l a = l.1
+last_is f g from (x ∷ xs) upto l a = let other : nat_eq x upto ≡ false = tested x upto a.0 in rw (before, other) (last_is f g x xs upto l.2 a.1)

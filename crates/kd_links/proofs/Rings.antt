@@ -8,9 +8,8 @@ use Rattle.std.proofs.lemmas.List.{get_or-replicate, get_or-set_same, get_or-set
 use Rattle.std.proofs.lemmas.Map.Steps.{length-le_from_distinct_below}
 use Rattle.kd_model.proofs.Lists.{all_follow, all_of_filter}
 use Rattle.kd_model.specs.Words.{contains}
-use Rattle.kd_links.specs.declared.node.Node.{Node}
-use Rattle.kd_links.specs.Chains.{AllBut, Apart, IsRing, Linked, behind, foremost, nexts, order, previouses, put_behind, spans}
-use Rattle.kd_links.proofs.Linked.{IsPut, IsTakenOut, all_but, back_of, equal, forth_of, next_holds, out_linked, previous_holds, put_linked, tested, walk_is, without}
+use Rattle.kd_links.specs.Chains.{AllBut, Apart, IsRing, Linked, before, behind, foremost, order, put_behind}
+use Rattle.kd_links.proofs.Linked.{IsPut, IsTakenOut, all_but, back_of, before_is, equal, forth_of, last_is, linked_kept, next_holds, out_linked, previous_holds, put_linked, tested, walk_is, without}
 
 -- a number that is among some has what each of them has
 pub holds_in : (P : ℕ → Type 0) (n : ℕ) (xs : List ℕ) → AllByRecursion P xs → contains n xs ≡ true → P n
@@ -31,15 +30,15 @@ few : (xs : List ℕ) (n : ℕ) → Apart xs → AllByRecursion (λ k. k < n) xs
 few xs n d a = length-le_from_distinct_below xs n (distinct xs d) (λ q h. holds_in (λ k. k < n) q xs a h)
 
 -- numbers that are linked from the head on are its ring
-pub ring_of : (head : ℕ) (ns : List Node) (xs : List ℕ) → head < length ns → Linked (slice_index (nexts ns)) (slice_index (previouses ns)) head xs head → Apart (head ∷ xs) → AllByRecursion (λ k. k < length ns) xs → IsRing head ns × (order head (nexts ns) ≡ xs)
+pub ring_of : (head : ℕ) (fs gs xs : List ℕ) → head < length fs → length gs ≡ length fs → Linked (slice_index fs) (slice_index gs) head xs head → Apart (head ∷ xs) → AllByRecursion (λ k. k < length fs) xs → IsRing head fs gs × (order head fs ≡ xs)
 unfolding order
-ring_of head ns xs inside linked apart below =
-    let most : length (head ∷ xs) ≤ length ns = few (head ∷ xs) (length ns) apart (inside, below) in
-    let fuel : length xs ≤ length (nexts ns) = omega (arith, length-map ns (λ (n : Node). n.next)) in
-    let same : order head (nexts ns) ≡ xs = walk_is (length (nexts ns)) (slice_index (nexts ns)) (slice_index (previouses ns)) head head xs linked apart.0 fuel in
-    (record { inside = inside; linked = rw same linked; apart = rw same apart; below = rw same below }, same)
+ring_of head fs gs xs inside both linked apart below =
+    let most : length (head ∷ xs) ≤ length fs = few (head ∷ xs) (length fs) apart (inside, below) in
+    let fuel : length xs ≤ length fs = omega arith in
+    let same : order head fs ≡ xs = walk_is (length fs) (slice_index fs) (slice_index gs) head head xs linked apart.0 fuel in
+    (record { inside = inside; both = both; linked = rw same linked; apart = rw same apart; below = rw same below }, same)
 
-all_put : (P : ℕ → Type 0) (p n from : ℕ) (xs : List ℕ) → P n → AllByRecursion P xs → AllByRecursion P (put_behind p n from xs)
+pub all_put : (P : ℕ → Type 0) (p n from : ℕ) (xs : List ℕ) → P n → AllByRecursion P xs → AllByRecursion P (put_behind p n from xs)
 all_put P p n from [] h a = go (nat_eq from p)
   where
     go : (t : Bool) → AllByRecursion P (elim t [ true ↦ n ∷ [] | false ↦ [] ])
@@ -51,7 +50,7 @@ all_put P p n from (x ∷ xs) h a = go (all_put P p n x xs h a.1) (nat_eq from p
     go more true = (h, a)
     go more false = (a.0, more)
 
-apart_put : (p n from : ℕ) (xs : List ℕ) → Apart (from ∷ xs) → AllBut n (from ∷ xs) → Apart (from ∷ put_behind p n from xs)
+pub apart_put : (p n from : ℕ) (xs : List ℕ) → Apart (from ∷ xs) → AllBut n (from ∷ xs) → Apart (from ∷ put_behind p n from xs)
 apart_put p n from [] d b = (all_put (λ k. k ≢ from) p n from [] (λ e. b.0 (sym e)) tt, go (nat_eq from p))
   where
     go : (t : Bool) → Apart (elim t [ true ↦ n ∷ [] | false ↦ [] ])
@@ -64,7 +63,7 @@ apart_put p n from (x ∷ xs) d b =
     go more true = (b.1, d.1)
     go more false = more
 
-apart_without : (n : ℕ) (xs : List ℕ) → Apart xs → Apart (without n xs)
+pub apart_without : (n : ℕ) (xs : List ℕ) → Apart xs → Apart (without n xs)
 apart_without n [] d = tt
 apart_without n (x ∷ xs) d = go (apart_without n xs d.1) (nat_eq x n)
   where
@@ -86,23 +85,28 @@ is_put fs gs p n a b c d ne nq back =
       before = λ k kq kn. get_or-set_other (set gs n p) q k n 0 kq ∙ get_or-set_other gs n k p 0 kn;
     }
 
+-- a ring that a change leaves as it was
+pub ring_kept : (head : ℕ) (fs gs fs' gs' : List ℕ) → IsRing head fs gs → length fs' ≡ length fs → length gs' ≡ length gs → AllByRecursion (λ k. slice_index fs' k ≡ slice_index fs k) (head ∷ order head fs) → AllByRecursion (λ k. slice_index gs' k ≡ slice_index gs k) (head ∷ order head fs) → IsRing head fs' gs' × (order head fs' ≡ order head fs)
+ring_kept head fs gs fs' gs' r lf lg a b =
+    let inside : head < length fs' = omega (arith, r.inside) in
+    ring_of head fs' gs' (order head fs) inside (lg ∙ r.both ∙ sym lf) (linked_kept (slice_index fs) (slice_index gs) (slice_index fs') (slice_index gs') head (order head fs) head r.linked a b.1 b.0) r.apart (rw lf r.below)
+
 -- a ring with one number more
-pub put_ring : (head : ℕ) (ns ns' : List Node) (p n : ℕ) → IsRing head ns → contains p (head ∷ order head (nexts ns)) ≡ true → contains n (head ∷ order head (nexts ns)) ≡ false → n < length ns → nexts ns' ≡ set (set (nexts ns) n (slice_index (nexts ns) p)) p n → previouses ns' ≡ set (set (previouses ns) n p) (slice_index (nexts ns) p) n → IsRing head ns' × (order head (nexts ns') ≡ put_behind p n head (order head (nexts ns)))
-put_ring head ns ns' p n r at new inside en ep =
-    let fs = nexts ns in let gs = previouses ns in let xs = order head fs in
+pub put_ring : (head : ℕ) (fs gs : List ℕ) (p n : ℕ) → IsRing head fs gs → contains p (head ∷ order head fs) ≡ true → contains n (head ∷ order head fs) ≡ false → n < length fs → IsRing head (set (set fs n (slice_index fs p)) p n) (set (set gs n p) (slice_index fs p) n) × (order head (set (set fs n (slice_index fs p)) p n) ≡ put_behind p n head (order head fs))
+put_ring head fs gs p n r at new inside =
+    let xs = order head fs in
     let f = slice_index fs in let g = slice_index gs in
-    let lf = length-map ns (λ (m : Node). m.next) in
-    let lg = length-map ns (λ (m : Node). m.previous) in
     let apart : AllBut n (head ∷ xs) = all_but n (head ∷ xs) new in
-    let pin : p < length ns = holds_in (λ k. k < length ns) p (head ∷ xs) (r.inside, r.below) at in
-    let qin : f p < length ns = next_holds (λ k. k < length ns) f g p head xs head r.linked at r.below r.inside in
+    let pin : p < length fs = holds_in (λ k. k < length fs) p (head ∷ xs) (r.inside, r.below) at in
+    let qin : f p < length fs = next_holds (λ k. k < length fs) f g p head xs head r.linked at r.below r.inside in
     let qn : f p ≢ n = next_holds (λ k. k ≢ n) f g p head xs head r.linked at apart.1 apart.0 in
     let pn : p ≢ n = holds_in (λ k. k ≢ n) p (head ∷ xs) apart at in
-    let w = is_put fs gs p n (omega arith) (omega arith) (omega arith) (omega arith) (λ e. pn (sym e)) (λ e. qn (sym e)) (back_of f g p head xs head r.linked at) in
-    let len : length ns' ≡ length ns =
-    sym (length-map ns' (λ (m : Node). m.next)) ∙ ap length en ∙ length-set (set fs n (f p)) p n ∙ length-set fs n (f p) ∙ lf in
+    let both : length gs ≡ length fs = r.both in
+    let w = is_put fs gs p n pin inside (omega arith) (omega arith) (λ e. pn (sym e)) (λ e. qn (sym e)) (back_of f g p head xs head r.linked at) in
+    let len : length (set (set fs n (f p)) p n) ≡ length fs = length-set (set fs n (f p)) p n ∙ length-set fs n (f p) in
+    let len' : length (set (set gs n p) (f p) n) ≡ length gs = length-set (set gs n p) (f p) n ∙ length-set gs n p in
     let linked = put_linked f g (slice_index (set (set fs n (f p)) p n)) (slice_index (set (set gs n p) (f p) n)) p n head xs head w r.linked r.apart apart apart.0 in
-    ring_of head ns' (put_behind p n head xs) (rw len r.inside) (rw (en, ep) linked) (apart_put p n head xs r.apart apart) (rw len (all_put (λ k. k < length ns) p n head xs inside r.below))
+    ring_of head (set (set fs n (f p)) p n) (set (set gs n p) (f p) n) (put_behind p n head xs) (rw len r.inside) (len' ∙ both ∙ sym len) linked (apart_put p n head xs r.apart apart) (rw len (all_put (λ k. k < length fs) p n head xs inside r.below))
 
 is_out : (fs gs : List ℕ) (n : ℕ) → slice_index gs n < length fs → slice_index fs n < length gs → slice_index fs (slice_index gs n) ≡ n → slice_index gs (slice_index fs n) ≡ n → IsTakenOut (slice_index fs) (slice_index gs) (slice_index (set fs (slice_index gs n) (slice_index fs n))) (slice_index (set gs (slice_index fs n) (slice_index gs n))) n
 is_out fs gs n a b forth back =
@@ -125,21 +129,20 @@ later_in n head xs h = go (nat_eq n head)
     go false = h
 
 -- a ring without one of its numbers
-pub out_ring : (head : ℕ) (ns ns' : List Node) (n : ℕ) → IsRing head ns → contains n (order head (nexts ns)) ≡ true → nexts ns' ≡ set (nexts ns) (slice_index (previouses ns) n) (slice_index (nexts ns) n) → previouses ns' ≡ set (previouses ns) (slice_index (nexts ns) n) (slice_index (previouses ns) n) → IsRing head ns' × (order head (nexts ns') ≡ without n (order head (nexts ns)))
-out_ring head ns ns' n r at en ep =
-    let fs = nexts ns in let gs = previouses ns in let xs = order head fs in
+pub out_ring : (head : ℕ) (fs gs : List ℕ) (n : ℕ) → IsRing head fs gs → contains n (order head fs) ≡ true → IsRing head (set fs (slice_index gs n) (slice_index fs n)) (set gs (slice_index fs n) (slice_index gs n)) × (order head (set fs (slice_index gs n) (slice_index fs n)) ≡ without n (order head fs))
+out_ring head fs gs n r at =
+    let xs = order head fs in
     let f = slice_index fs in let g = slice_index gs in
-    let lf = length-map ns (λ (m : Node). m.next) in
-    let lg = length-map ns (λ (m : Node). m.previous) in
     let among = later_in n head xs at in
-    let pin : g n < length ns = previous_holds (λ k. k < length ns) f g n head xs head r.linked at r.below r.inside in
-    let qin : f n < length ns = next_holds (λ k. k < length ns) f g n head xs head r.linked among r.below r.inside in
+    let pin : g n < length fs = previous_holds (λ k. k < length fs) f g n head xs head r.linked at r.below r.inside in
+    let qin : f n < length fs = next_holds (λ k. k < length fs) f g n head xs head r.linked among r.below r.inside in
+    let both : length gs ≡ length fs = r.both in
     let hn : head ≢ n = λ e. holds_in (λ k. k ≢ head) n xs r.apart.0 at (sym e) in
-    let w = is_out fs gs n (omega arith) (omega arith) (forth_of f g n head xs head r.linked at) (back_of f g n head xs head r.linked among) in
-    let len : length ns' ≡ length ns =
-    sym (length-map ns' (λ (m : Node). m.next)) ∙ ap length en ∙ length-set fs (g n) (f n) ∙ lf in
+    let w = is_out fs gs n pin (omega arith) (forth_of f g n head xs head r.linked at) (back_of f g n head xs head r.linked among) in
+    let len : length (set fs (g n) (f n)) ≡ length fs = length-set fs (g n) (f n) in
+    let len' : length (set gs (f n) (g n)) ≡ length gs = length-set gs (f n) (g n) in
     let linked = out_linked f g (slice_index (set fs (g n) (f n))) (slice_index (set gs (f n) (g n))) n head xs head w r.linked r.apart hn hn in
-    ring_of head ns' (without n xs) (rw len r.inside) (rw (en, ep) linked) (all_of_filter (λ k. k ≢ head) _ xs r.apart.0, apart_without n xs r.apart.1) (rw len (all_of_filter (λ k. k < length ns) _ xs r.below))
+    ring_of head (set fs (g n) (f n)) (set gs (f n) (g n)) (without n xs) (rw len r.inside) (len' ∙ both ∙ sym len) linked (all_of_filter (λ k. k ≢ head) _ xs r.apart.0, apart_without n xs r.apart.1) (rw len (all_of_filter (λ k. k < length fs) _ xs r.below))
 
 -- what is among some numbers and isn't the first is among the others
 pub later : (p from : ℕ) (xs : List ℕ) → contains p (from ∷ xs) ≡ true → nat_eq from p ≡ false → contains p xs ≡ true
@@ -194,33 +197,49 @@ behind_step p from x (y ∷ ys) rest d e = go (behind_step p y x ys rest d.1) (n
     go more false h = let s = more h in later_here (later_in x y ys s.among) s.left
 
 -- where the numbers of a ring and those beside them lie
-pub ring_inside : (head : ℕ) (ns : List Node) (p : ℕ) → IsRing head ns → contains p (head ∷ order head (nexts ns)) ≡ true → p < length ns
-ring_inside head ns p r h = holds_in (λ k. k < length ns) p (head ∷ order head (nexts ns)) (r.inside, r.below) h
+pub ring_inside : (head : ℕ) (fs gs : List ℕ) (p : ℕ) → IsRing head fs gs → contains p (head ∷ order head fs) ≡ true → p < length fs
+ring_inside head fs gs p r h = holds_in (λ k. k < length fs) p (head ∷ order head fs) (r.inside, r.below) h
 
-pub next_inside : (head : ℕ) (ns : List Node) (p : ℕ) → IsRing head ns → contains p (head ∷ order head (nexts ns)) ≡ true → slice_index (nexts ns) p < length ns
-next_inside head ns p r h = next_holds (λ k. k < length ns) (slice_index (nexts ns)) (slice_index (previouses ns)) p head (order head (nexts ns)) head r.linked h r.below r.inside
+pub next_inside : (head : ℕ) (fs gs : List ℕ) (p : ℕ) → IsRing head fs gs → contains p (head ∷ order head fs) ≡ true → slice_index fs p < length fs
+next_inside head fs gs p r h = next_holds (λ k. k < length fs) (slice_index fs) (slice_index gs) p head (order head fs) head r.linked h r.below r.inside
 
-pub previous_inside : (head : ℕ) (ns : List Node) (p : ℕ) → IsRing head ns → contains p (order head (nexts ns)) ≡ true → slice_index (previouses ns) p < length ns
-previous_inside head ns p r h = previous_holds (λ k. k < length ns) (slice_index (nexts ns)) (slice_index (previouses ns)) p head (order head (nexts ns)) head r.linked h r.below r.inside
+pub previous_inside : (head : ℕ) (fs gs : List ℕ) (p : ℕ) → IsRing head fs gs → contains p (order head fs) ≡ true → slice_index gs p < length fs
+previous_inside head fs gs p r h = previous_holds (λ k. k < length fs) (slice_index fs) (slice_index gs) p head (order head fs) head r.linked h r.below r.inside
 
--- a ring names the number behind each, none behind the last
-pub ring_front : (head : ℕ) (ns : List Node) (p : ℕ) → IsRing head ns → contains p (head ∷ order head (nexts ns)) ≡ true → unless head (slice_index (nexts ns) p) ≡ foremost (behind p head (order head (nexts ns)))
-ring_front head ns p r h = front_is (slice_index (nexts ns)) (slice_index (previouses ns)) p head (order head (nexts ns)) head r.linked h r.apart.0
+-- a ring names the number behind each, none behind the last, and the one before each
+pub ring_front : (head : ℕ) (fs gs : List ℕ) (p : ℕ) → IsRing head fs gs → contains p (head ∷ order head fs) ≡ true → unless head (slice_index fs p) ≡ foremost (behind p head (order head fs))
+ring_front head fs gs p r h = front_is (slice_index fs) (slice_index gs) p head (order head fs) head r.linked h r.apart.0
 
-map_all : {X Y : Type 0} (f : X → Y) (n : ℕ) (x : X) → map f (replicate n x) ≡ replicate n (f x)
-map_all f zero x = refl
-map_all f (suc n) x = ap (f x ∷◌) (map_all f n x)
+pub ring_before : (head : ℕ) (fs gs : List ℕ) (p : ℕ) → IsRing head fs gs → contains p (order head fs) ≡ true → slice_index gs p ≡ before p head (order head fs)
+ring_before head fs gs p r h = before_is (slice_index fs) (slice_index gs) p head (order head fs) head r.linked h
 
--- nodes that all name the head make a ring of it alone, and have one span
-pub record IsMade (head n : ℕ) (m : Node) (ns : List Node) : Type 0 where
-  pub ring : IsRing head ns
-  pub none : order head (nexts ns) ≡ []
-  pub spans : spans ns ≡ replicate n m.span
+pub ring_last : (head : ℕ) (fs gs : List ℕ) → IsRing head fs gs → slice_index gs head ≡ before head head (order head fs)
+ring_last head fs gs r = last_is (slice_index fs) (slice_index gs) head (order head fs) head r.linked r.apart.0
 
-pub ring_made : (head n : ℕ) (m : Node) (ns : List Node) → head < n → m.next ≡ head → m.previous ≡ head → ns ≡ replicate n m → IsMade head n m ns
-ring_made head n m ns h next previous e =
-    let len : length ns ≡ n = ap length e ∙ length-replicate n m in
-    let f : slice_index (nexts ns) head ≡ head = ap (λ l. slice_index (nexts l) head) e ∙ ap (λ l. slice_index l head) (map_all (λ (k : Node). k.next) n m) ∙ get_or-replicate n head m.next 0 h ∙ next in
-    let g : slice_index (previouses ns) head ≡ head = ap (λ l. slice_index (previouses l) head) e ∙ ap (λ l. slice_index l head) (map_all (λ (k : Node). k.previous) n m) ∙ get_or-replicate n head m.previous 0 h ∙ previous in
-    let made = ring_of head ns [] (omega arith) (f, g) (tt, tt) tt in
-    record { ring = made.0; none = made.1; spans = ap spans e ∙ map_all (λ (k : Node). k.span) n m }
+-- a head that names itself is a ring of it alone
+pub ring_alone : (head : ℕ) (fs gs : List ℕ) → head < length fs → length gs ≡ length fs → slice_index fs head ≡ head → slice_index gs head ≡ head → IsRing head fs gs × (order head fs ≡ [])
+ring_alone head fs gs inside both f g = ring_of head fs gs [] inside both (f, g) (tt, tt) tt
+
+-- a step from a number to the one behind it
+pub record IsFurther (at next head : ℕ) (xs : List ℕ) : Type 0 where
+  pub among : contains next xs ≡ true
+  pub rest : List ℕ
+  pub was : behind at head xs ≡ next ∷ rest
+  pub is : behind next head xs ≡ rest
+
+front_some : (xs : List ℕ) (x : ℕ) → foremost xs ≡ Some x → (rest : List ℕ) × (xs ≡ x ∷ rest)
+front_some [] x e = cc
+front_some (y ∷ ys) x e = (ys, cc)
+
+pub further : (at next head : ℕ) (xs : List ℕ) → Apart (head ∷ xs) → foremost (behind at head xs) ≡ Some next → IsFurther at next head xs
+further at next head xs apart e =
+    let r = front_some (behind at head xs) next e in
+    let s = behind_step at head next xs r.0 apart r.1 in
+    record { among = s.among; rest = r.0; was = r.1; is = s.left }
+
+pub nearer : (at next head : ℕ) (xs : List ℕ) → IsFurther at next head xs → length (behind next head xs) < length (behind at head xs)
+nearer at next head xs s = let a = ap length s.was in let b = ap length s.is in omega arith
+
+pub front_none : (xs : List ℕ) → foremost xs ≡ None → xs ≡ []
+front_none [] e = refl
+front_none (y ∷ ys) e = cc

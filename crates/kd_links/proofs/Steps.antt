@@ -8,15 +8,13 @@ use Rattle.kd_model.specs.declared.placed.Placed.{Placed}
 use Rattle.kd_model.specs.declared.slice_no.TheConstants.{SLICES}
 use Rattle.kd_model.proofs.Lists.{all_follow, all_under}
 use Rattle.kd_links.specs.Chains.{Apart, Chained, behind, foremost, no_span}
-use Rattle.kd_slices.specs.Gaps.{gap_holds}
-use Rattle.kd_links.specs.Kept.{IsBehind, IsKept, gap_of, slice_of, slices_of}
-use Rattle.kd_links.specs.declared.gaps.Hole.{Hole}
+use Rattle.kd_links.specs.Kept.{IsKept, slice_of, slices_of}
 use Rattle.kd_links.specs.declared.node.Span.{Span}
 use Rattle.kd_links.specs.declared.node.TheConstants.{START}
-use Rattle.kd_links.proofs.Books.{numbers_below, start_ends, start_out}
+use Rattle.kd_links.proofs.Books.{kept_apart, numbers_below, start_ends, start_out}
 use Rattle.kd_links.proofs.Linked.{differ}
 use Rattle.kd_links.proofs.Rings.{behind_first, behind_step, holds_in, later_in}
-use Rattle.kd_slices.proofs.Walks.{Measures, Searches, ends_within, measures_on, searches_on}
+use Rattle.kd_slices.proofs.Walks.{Measures, ends_within, measures_on}
 
 -- the slices behind a number
 abbrev pub slices_behind : Chained → ℕ → List Placed
@@ -27,24 +25,9 @@ pub record IsAt (c : Chained) (at start : ℕ) : Type 0 where
   pub among : contains at (START ∷ c.order) ≡ true
   pub ends : slice_end (slice_of c.spans at) ≡ start
 
-pub record Searching (c : Chained) (size len : ℕ) (best : Option Hole) (at start : ℕ) : Type 0 where
-  pub here : IsAt c at start
-  pub search : Searches start size len (option_map gap_of best) (slices_of c) (slices_behind c at)
-  pub found : IfSome best (λ h. IsBehind c h.behind h.gap)
-
 pub record Measuring (c : Chained) (size most at start : ℕ) : Type 0 where
   pub here : IsAt c at start
   pub measure : Measures start size most (slices_of c) (slices_behind c at)
-
-apart_of : (sp : List Span) (xs : List ℕ) → IsDistinct has_same_number (map (slice_of sp) xs) → Apart xs
-unfolding IsDistinct
-apart_of sp [] d = tt
-apart_of sp (x ∷ xs) d =
-    (all_follow (λ k. nat_eq x k ≡ false) (λ k. k ≢ x) xs (λ k e s. differ x k e (sym s)) (all_under (λ (t : Placed). has_same_number (slice_of sp x) t ≡ false) (slice_of sp) xs d.0), apart_of sp xs d.1)
-
--- the start and the numbers in order differ from one another
-pub kept_apart : (size : ℕ) (c : Chained) → IsKept size c → Apart (START ∷ c.order)
-kept_apart size c k = (start_out size c k, apart_of c.spans c.order k.sound.distinct)
 
 front_some : (xs : List ℕ) (x : ℕ) → foremost xs ≡ Some x → (rest : List ℕ) × (xs ≡ x ∷ rest)
 front_some [] x e = cc
@@ -80,32 +63,6 @@ at_start size c k = record { among = refl; ends = start_ends size c k }
 
 at_next : (c : Chained) (at next : ℕ) (s : Span) → IsNext c at next → s ≡ slice_index_or c.spans next no_span → IsAt c next (s.offset + s.len)
 at_next c at next s n e = record { among = later_in next START c.order n.among; ends = ap (λ (t : Span). t.offset + t.len) (sym e) }
-
-pub search_begins : (size len : ℕ) (c : Chained) → IsKept size c → Searching c size len None START 0
-search_begins size len c k =
-    let all : slices_behind c START ≡ slices_of c = ap (map (slice_of c.spans)) (behind_first START c.order) in
-    record {
-      here = at_start size c k;
-      search = rw all (record { order = k.sound.order; whole = refl });
-      found = tt;
-    }
-
-still_found : (c : Chained) (at start : ℕ) (best next : Option Hole) → IsAt c at start → IfSome best (λ h. IsBehind c h.behind h.gap) → (next ≡ best) ⊎ IfSome next (λ h. (h.behind ≡ at) × (h.gap.start ≡ start)) → IfSome next (λ h. IsBehind c h.behind h.gap)
-still_found c at start best next a f (inl e) = rw e f
-still_found c at start best None a f (inr h) = tt
-still_found c at start best (Some h) a f (inr e) = record { among = ap (λ k. contains k (START ∷ c.order)) e.0 ∙ a.among; ends = ap (λ k. slice_end (slice_of c.spans k)) e.0 ∙ a.ends ∙ sym e.1 }
-
-pub searching_on : (c : Chained) (size len : ℕ) (best : Option Hole) (at start next : ℕ) (s : Span) (better : Option Hole) → IsKept size c → Searching c size len best at start → foremost (behind at START c.order) ≡ Some next → s ≡ slice_index_or c.spans next no_span → option_map gap_of better ≡ lesser is_better (option_map gap_of best) (least is_better (those (gap_holds len) (between start s.offset))) → (better ≡ best) ⊎ IfSome better (λ h. (h.behind ≡ at) × (h.gap.start ≡ start)) → Searching c size len better next (s.offset + s.len)
-searching_on c size len best at start next s better k i e is gap from =
-    let n = next_of size c at next k e in
-    let slice : Placed = record { number = next; offset = s.offset; len = s.len } in
-    let same : slice_of c.spans next ≡ slice = ap (λ (t : Span). record { number = next; offset = t.offset; len = t.len }) (sym is) in
-    let left : slices_behind c at ≡ slice ∷ slices_behind c next = slices_step c at next n ∙ ap (λ t. t ∷ slices_behind c next) same in
-    record {
-      here = at_next c at next s n is;
-      search = searches_on start size len (option_map gap_of best) (option_map gap_of better) (slices_of c) (slices_behind c next) slice (rw left at i.search) gap;
-      found = still_found c at start best better i.here i.found from;
-    }
 
 pub measure_begins : (size : ℕ) (c : Chained) → IsKept size c → Measuring c size 0 START 0
 measure_begins size c k =

@@ -1,8 +1,9 @@
--- Numbers in an order, each with a span, as nodes that are linked in both directions.
-use Rattle.std.specs.Prelude.{◌≡◌, ◌≢◌, ◌<◌, ⊤, ℕ, true, false, zero, suc, List, [], ◌∷◌, Option, None, Some, map, length, nat_eq, slice_index}
+-- Numbers in rings, each with a span, as nodes that are linked in both directions.
+use Rattle.std.specs.Prelude.{◌≡◌, ◌≢◌, ◌<◌, ◌≤◌, ⊤, ℕ, true, false, zero, suc, List, [], ◌∷◌, Option, None, Some, map, length, nat_eq, slice_index}
 use Rattle.std.specs.List.{AllByRecursion}
 use Rattle.kd_links.specs.declared.node.Node.{Node}
 use Rattle.kd_links.specs.declared.node.Span.{Span}
+use Rattle.kd_links.specs.declared.node.TheConstants.{HEAD, START}
 
 -- the number behind each number, and the one before it
 abbrev pub nexts : List Node → List ℕ
@@ -56,21 +57,35 @@ abbrev pub behind : ℕ → ℕ → List ℕ → List ℕ
 behind place first [] = []
 behind place first (x ∷ xs) = elim (nat_eq first place) [ true ↦ x ∷ xs | false ↦ behind place x xs ]
 
+-- the number before another, in the list that follows a first one; the last before any other number
+abbrev pub before : ℕ → ℕ → List ℕ → ℕ
+before place first [] = first
+before place first (x ∷ xs) = elim (nat_eq x place) [ true ↦ first | false ↦ before place x xs ]
+
 abbrev pub foremost : List ℕ → Option ℕ
 foremost [] = None
 foremost (x ∷ xs) = Some x
 
--- the nodes are linked in a ring, from the head over the numbers behind it to the head
-pub record IsRing (head : ℕ) (ns : List Node) : Type 0 where
-  pub inside : head < length ns
-  pub linked :
-      Linked (slice_index (nexts ns)) (slice_index (previouses ns)) head (order head (nexts ns)) head
-  pub apart : Apart (head ∷ order head (nexts ns))
-  pub below : AllByRecursion (λ k. k < length ns) (order head (nexts ns))
+-- numbers are linked in a ring, from the head over the numbers behind it to the head
+pub record IsRing (head : ℕ) (nexts previouses : List ℕ) : Type 0 where
+  pub inside : head < length nexts
+  pub both : length previouses ≡ length nexts
+  pub linked : Linked (slice_index nexts) (slice_index previouses) head (order head nexts) head
+  pub apart : Apart (head ∷ order head nexts)
+  pub below : AllByRecursion (λ k. k < length nexts) (order head nexts)
 
--- what a chain is: the numbers in it, in order, and the span of each number
+-- one ring of slices and one of gaps, which have no number in common
+pub record AreRings (nexts previouses : List ℕ) : Type 0 where
+  pub slices : IsRing START nexts previouses
+  pub gaps : IsRing HEAD nexts previouses
+  pub low : AllByRecursion (λ k. k < HEAD) (order START nexts)
+  pub high : AllByRecursion (λ k. HEAD < k) (order HEAD nexts)
+
+-- what a chain is: the numbers of its slices, and those of its gaps, in order, and the span of each
+-- number
 pub record Chained : Type 0 where
   pub order : List ℕ
+  pub gaps : List ℕ
   pub spans : List Span
 
 -- the span of a number that isn't used

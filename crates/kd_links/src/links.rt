@@ -1,18 +1,20 @@
 //! The calls of a book over the chain.
 
-ghost use Rattle.std.specs.Prelude.{◌≡◌, ◌<◌};
+ghost use Rattle.std.specs.Prelude.{◌≡◌, ◌<◌, ◌≤◌, ◌+◌};
 ghost use Rattle.kd_model.specs.Slices.{Book, has_number, lowest_unused};
 ghost use Rattle.kd_model.specs.Words.{some_of};
+ghost use Rattle.kd_links.specs.Filed.{gap_from, lying};
 ghost use Rattle.kd_links.specs.Kept.{IsKept, IsLinked, chain_book, slices_of};
+ghost use Rattle.kd_links.specs.declared.node.TheConstants.{START};
 
 use crate::chain::Chain;
-use crate::gaps;
-use crate::node::Span;
+use crate::node::{GAPS, START, Span};
+use crate::{bins, gaps};
 use kd_model::{NoPlace, SLICES, SliceBook, SliceNo};
 use std::alloc::{AllocError, Global};
 use std::marker::Model;
 
-/// A book of slices as a chain, which has a node for each number from the start on.
+/// A book of slices as a chain, which has a node for each number and each gap from the start on.
 #[derive(Debug, Drop)]
 pub struct Links {
     size: u32,
@@ -32,10 +34,13 @@ impl SliceBook for Links {
     ghost book = { λ s. s };
 
     fn make(alloc: Global, size: u32) -> Result<Links, AllocError> {
+        let mut chain = Chain::make(alloc)?;
+        bins::fill(&mut chain);
+        bins::refile(&mut chain, START, span_from(0, size));
         Ok(Links {
             size,
             used: 0,
-            chain: Chain::make(alloc)?,
+            chain,
         })
     }
 
@@ -44,24 +49,36 @@ impl SliceBook for Links {
         let Some(number) = lowest_unused(&self.chain, self.size) else {
             return Err(NoPlace::Spent);
         };
-        let Some(hole) = gaps::smallest_gap(&self.chain, self.size, len) else {
+        let Some(behind) = bins::smallest(&self.chain, len) else {
             return Err(NoPlace::Full);
         };
-        let offset = hole.gap.start;
-        self.chain
-            .put_behind(hole.behind, number, Span { offset, len });
+        let Span { offset, len: room } = self.chain.span(GAPS + behind);
+        self.chain.put_behind(behind, number, Span { offset, len });
+        bins::refile(&mut self.chain, behind, Span { offset: 0, len: 0 });
+        let rest = span_from(offset + len, room - len);
+        bins::refile(&mut self.chain, number, rest);
         self.used += len;
         Ok((SliceNo(number), offset))
     }
 
     fn give_back(&mut self, number: SliceNo) {
-        let span = self.chain.span(number.0);
-        self.chain.take_out(number.0);
+        let number = number.0;
+        let span = self.chain.span(number);
+        let before = self.chain.previous(number);
+        let left = self.chain.span(GAPS + before).len;
+        let right = self.chain.span(GAPS + number).len;
+        self.chain.take_out(number);
+        bins::refile(&mut self.chain, number, Span { offset: 0, len: 0 });
+        let whole = span_from(span.offset - left, left + span.len + right);
+        bins::refile(&mut self.chain, before, whole);
         self.used -= span.len;
     }
 
     fn at(&self, number: SliceNo) -> Option<(u32, u32)> {
         let span = self.chain.span(number.0);
+        if number.0 >= SLICES {
+            return None;
+        }
         if span.len == 0 {
             return None;
         }
@@ -75,6 +92,16 @@ impl SliceBook for Links {
     fn largest_gap(&self) -> u32 {
         gaps::largest_gap(&self.chain, self.size)
     }
+}
+
+/// What lies from a place on, of no bytes or some.
+fn span_from(offset: u32, len: u32) -> Span
+    ensures { gap_from result ≡ lying offset (offset + len) }
+{
+    if len == 0 {
+        return Span { offset: 0, len: 0 };
+    }
+    Span { offset, len }
 }
 
 /// The lowest number that none of the slices has.
@@ -92,7 +119,8 @@ fn lowest_unused(chain: &Chain, size: u32) -> Option<u32>
 
 /// Whether a slice has the number: its span has some bytes.
 fn is_used(chain: &Chain, size: u32, number: u32) -> bool
-    requires { IsKept size chain.now }
+    requires kept { IsKept size chain.now }
+    requires low { number ≤ START }
     ensures { result ≡ some_of (has_number number) (slices_of chain.now) }
 {
     chain.span(number).len > 0

@@ -1,12 +1,27 @@
-//! The nodes of the vector, and the writes that change one of them.
+//! The nodes of the vector, and the writes that change one of them or link two.
 
-ghost use Rattle.std.specs.Prelude.{◌≡◌, ◌<◌, slice_set, vec_len};
+ghost use Rattle.std.specs.Prelude.{◌≡◌, ◌<◌, slice_index, slice_set, vec_len};
 ghost use Rattle.kd_links.specs.Chains.{nexts, previouses, spans};
 
 use kd_model::SLICES;
 
-/// The number of the node from which the others are reached: the first behind the slices' numbers.
+/// The number of the node from which the slices are reached: the first behind the slices' numbers.
 pub const START: u32 = SLICES;
+
+/// The number of the node from which the gaps are reached.
+pub const HEAD: u32 = START + 1;
+
+/// The gap behind a slice or the start is the node of this number and its own.
+pub const GAPS: u32 = HEAD + 1;
+
+/// The first number of the marks, one for each bin.
+pub const MARKS: u32 = GAPS + START + 1;
+
+/// How many bins there are: the last begins at the size of the largest pool.
+pub const BINS: u32 = 18;
+
+/// How many nodes there are.
+pub const NODES: u32 = MARKS + BINS;
 
 /// A range of the pool: `len` bytes from `offset` on. That of an unused number has no bytes.
 #[derive(Clone, Copy, Debug, PartialEq, Eq)]
@@ -21,6 +36,45 @@ pub struct Node {
     pub previous: u32,
     pub next: u32,
     pub span: Span,
+}
+
+/// Links a node behind another.
+pub fn link(nodes: &mut Vec<Node>, place: u32, number: u32)
+    requires place { place < vec_len nodes.old }
+    requires number { number < vec_len nodes.old }
+    requires next { slice_index (nexts nodes.old.items) place < vec_len nodes.old }
+    ensures len { vec_len nodes.new ≡ vec_len nodes.old }
+    ensures nexts { let next = slice_index (nexts nodes.old.items) place in
+        nexts nodes.new.items ≡ slice_set (slice_set (nexts nodes.old.items) number next) place number }
+    ensures previous { let next = slice_index (nexts nodes.old.items) place in
+        previouses nodes.new.items
+        ≡ slice_set (slice_set (previouses nodes.old.items) number place) next number }
+    ensures spans { spans nodes.new.items ≡ spans nodes.old.items }
+{
+    let next = nodes[place as usize].next;
+    set_next(nodes, number, next);
+    set_previous(nodes, number, place);
+    set_next(nodes, place, number);
+    set_previous(nodes, next, number);
+}
+
+/// Links the nodes beside one with one another.
+pub fn unlink(nodes: &mut Vec<Node>, number: u32)
+    requires number { number < vec_len nodes.old }
+    requires next { slice_index (nexts nodes.old.items) number < vec_len nodes.old }
+    requires previous { slice_index (previouses nodes.old.items) number < vec_len nodes.old }
+    ensures len { vec_len nodes.new ≡ vec_len nodes.old }
+    ensures nexts { let next = slice_index (nexts nodes.old.items) number in
+        let previous = slice_index (previouses nodes.old.items) number in
+        nexts nodes.new.items ≡ slice_set (nexts nodes.old.items) previous next }
+    ensures previous { let next = slice_index (nexts nodes.old.items) number in
+        let previous = slice_index (previouses nodes.old.items) number in
+        previouses nodes.new.items ≡ slice_set (previouses nodes.old.items) next previous }
+    ensures spans { spans nodes.new.items ≡ spans nodes.old.items }
+{
+    let Node { previous, next, .. } = nodes[number as usize];
+    set_next(nodes, previous, next);
+    set_previous(nodes, next, previous);
 }
 
 /// Names the node behind one.

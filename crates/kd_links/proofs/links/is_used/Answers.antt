@@ -6,4 +6,4 @@ use Rattle.kd_links.proofs.Books.{used_is}
 use Rattle.kd_links.proofs.links.is_used.Goals as goal
 
 pub returns : goal.returns
-returns c = ap (λ (s : Span). nat_lt 0 s.len) c.span.ensures ∙ used_is c.args.size c.args.chain.now c.args.number c.requires
+returns c = ap (λ (s : Span). nat_lt 0 s.len) c.span.ensures ∙ used_is c.args.size c.args.chain.now c.args.number c.requires.kept c.requires.low
