@@ -9,4 +9,4 @@ pub mod Marks
 pub mod Filling
 pub mod Lying
 pub mod Placing
-pub mod Steps
+pub mod Largest

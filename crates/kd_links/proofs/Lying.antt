@@ -24,7 +24,7 @@ use Rattle.kd_slices.proofs.Walks.{ends_within}
 -- ---- gaps and nodes
 
 -- a node among some has the gap
-abbrev Has : (ℕ → Gap) → List ℕ → Gap → Type 0
+abbrev pub Has : (ℕ → Gap) → List ℕ → Gap → Type 0
 Has r xs g = (n : ℕ) × (contains n xs ≡ true) × (r (GAPS + n) ≡ g)
 
 has_later : (r : ℕ → Gap) (x : ℕ) (xs : List ℕ) (g : Gap) → Has r xs g → Has r (x ∷ xs) g
@@ -38,7 +38,7 @@ one_has r n from upto xs h = go (nat_lt from upto) h
     go false e = tt
 
 -- each gap of the book is that of a node
-each_has : (r : ℕ → Gap) (f : ℕ → Placed) (size at n : ℕ) (xs : List ℕ) → AreBehind r f size at n xs → AllByRecursion (Has r (n ∷ xs)) (gaps_from at size (map f xs))
+pub each_has : (r : ℕ → Gap) (f : ℕ → Placed) (size at n : ℕ) (xs : List ℕ) → AreBehind r f size at n xs → AllByRecursion (Has r (n ∷ xs)) (gaps_from at size (map f xs))
 each_has r f size at n [] h = one_has r n at size [] h
 each_has r f size at n (x ∷ xs) h =
     all_of_append (Has r (n ∷ x ∷ xs)) (between at (f x).offset) (gaps_from (slice_end (f x)) size (map f xs))
@@ -62,7 +62,7 @@ one_is g from upto e some = go (nat_lt from upto) e
     go false e = let none : g.len ≡ 0 = ap (λ (g : Gap). g.len) e in absurd (omega arith)
 
 -- each node's gap of some bytes is one of the book
-node_is : (r : ℕ → Gap) (f : ℕ → Placed) (size at n k : ℕ) (xs : List ℕ) → AreBehind r f size at n xs → contains k (n ∷ xs) ≡ true → 0 < (r (GAPS + k)).len → AnyOf (λ h. h ≡ r (GAPS + k)) (gaps_from at size (map f xs))
+pub node_is : (r : ℕ → Gap) (f : ℕ → Placed) (size at n k : ℕ) (xs : List ℕ) → AreBehind r f size at n xs → contains k (n ∷ xs) ≡ true → 0 < (r (GAPS + k)).len → AnyOf (λ h. h ≡ r (GAPS + k)) (gaps_from at size (map f xs))
 node_is r f size at n k [] h i some = go (nat_eq n k) refl
   where
     go : (t : Bool) → nat_eq n k ≡ t → AnyOf (λ h. h ≡ r (GAPS + k)) (between at size)
@@ -184,7 +184,7 @@ pub record IsBest (size len n : ℕ) (c : Chained) : Type 0 where
   pub among : contains n (START ∷ c.order) ≡ true
 
 -- a node that has a gap of some bytes is the start or a slice
-owner : (size : ℕ) (c : Chained) (n : ℕ) → IsBinned size c → n ≤ START → 0 < (rank c.spans (GAPS + n)).len → contains n (START ∷ c.order) ≡ true
+pub owner : (size : ℕ) (c : Chained) (n : ℕ) → IsBinned size c → n ≤ START → 0 < (rank c.spans (GAPS + n)).len → contains n (START ∷ c.order) ≡ true
 owner size c n b low some = go (contains n c.order) refl (nat_eq n START) refl
   where
     go : (t : Bool) → contains n c.order ≡ t → (u : Bool) → nat_eq n START ≡ u → (u || contains n c.order) ≡ true

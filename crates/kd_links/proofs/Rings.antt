@@ -216,6 +216,14 @@ ring_before head fs gs p r h = before_is (slice_index fs) (slice_index gs) p hea
 pub ring_last : (head : ℕ) (fs gs : List ℕ) → IsRing head fs gs → slice_index gs head ≡ before head head (order head fs)
 ring_last head fs gs r = last_is (slice_index fs) (slice_index gs) head (order head fs) head r.linked r.apart.0
 
+-- the number before one of a ring, the last before the head
+pub ring_before_all : (head : ℕ) (fs gs : List ℕ) (p : ℕ) → IsRing head fs gs → contains p (head ∷ order head fs) ≡ true → slice_index gs p ≡ before p head (order head fs)
+ring_before_all head fs gs p r h = go (nat_eq head p) refl
+  where
+    go : (t : Bool) → nat_eq head p ≡ t → slice_index gs p ≡ before p head (order head fs)
+    go true e = subst (λ k. slice_index gs k ≡ before k head (order head fs)) (equal head p e) (ring_last head fs gs r)
+    go false e = ring_before head fs gs p r (later p head (order head fs) h e)
+
 -- a head that names itself is a ring of it alone
 pub ring_alone : (head : ℕ) (fs gs : List ℕ) → head < length fs → length gs ≡ length fs → slice_index fs head ≡ head → slice_index gs head ≡ head → IsRing head fs gs × (order head fs ≡ [])
 ring_alone head fs gs inside both f g = ring_of head fs gs [] inside both (f, g) (tt, tt) tt

@@ -72,6 +72,14 @@ impl Chain {
         if next == HEAD { None } else { Some(next) }
     }
 
+    /// The gap before another or before the head, the head where there is none.
+    pub fn smaller(&self, number: u32) -> u32
+        requires { IsTrue (contains number (HEAD ∷ self.now.gaps)) }
+        ensures { result ≡ before number HEAD self.now.gaps }
+    {
+        self.nodes[number as usize].previous
+    }
+
     /// The span of a number: no bytes for one that has no node.
     pub fn span(&self, number: u32) -> Span
         ensures { result ≡ slice_index_or self.now.spans number no_span }

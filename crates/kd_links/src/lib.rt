@@ -27,13 +27,14 @@
 //! So the smallest gap that holds a length is found from the mark of its bin on, and a gap is put
 //! in from the mark of its own. Bins without gaps cost a step each, for their marks.
 //!
+//! The largest gap is the last in that ring, found from the head back over the marks of larger bins.
+//!
 //! A slice that is given back makes one gap with those on both its sides: the gap behind the slice
 //! before it gets the bytes of all three.
 #![tactic(auto)]
 
 mod bins;
 mod chain;
-mod gaps;
 mod links;
 mod node;
 

@@ -7,9 +7,9 @@ ghost use Rattle.kd_links.specs.Filed.{gap_from, lying};
 ghost use Rattle.kd_links.specs.Kept.{IsKept, IsLinked, chain_book, slices_of};
 ghost use Rattle.kd_links.specs.declared.node.TheConstants.{START};
 
+use crate::bins;
 use crate::chain::Chain;
 use crate::node::{GAPS, START, Span};
-use crate::{bins, gaps};
 use kd_model::{NoPlace, SLICES, SliceBook, SliceNo};
 use std::alloc::{AllocError, Global};
 use std::marker::Model;
@@ -90,7 +90,7 @@ impl SliceBook for Links {
     }
 
     fn largest_gap(&self) -> u32 {
-        gaps::largest_gap(&self.chain, self.size)
+        bins::largest(&self.chain)
     }
 }
 
