@@ -4,7 +4,6 @@ use Rattle.std.specs.declared.option.Option.TheVariants.{Some}
 use Rattle.kd_types.specs.declared.session_end.SessionEnd.{SessionEnd}
 use Rattle.kd_types.specs.declared.session_end.SessionEnd.TheVariants.{Ended}
 use Rattle.kd_model.specs.Words.{is_empty}
-use Rattle.kd_outside.specs.Causes.{count_after}
 use Rattle.kd_outside.specs.Told.{ClockState, ListenerState, BinderState, Served, Bound, next_moment, later_moments}
 use Rattle.kd_outside.specs.Memory.{Calls, Line, no_calls, fails_next, with_call, with_fault, line_state}
 use Rattle.kd_outside.specs.Racks.{Rack, full_rack, next_of, with_one_out, with_one_back}
@@ -98,7 +97,7 @@ after_accept n =
     then record n { calls = with_fault n.calls }
     else record n {
       links = with_one_out n.links;
-      gave = count_after n.gave;
+      gave = n.gave + 1;
       calls = with_call n.calls;
     }
 
@@ -159,7 +158,7 @@ after_bind b =
     then record b { calls = with_fault b.calls }
     else record b {
       listeners = with_one_out b.listeners;
-      gave = count_after b.gave;
+      gave = b.gave + 1;
       calls = with_call b.calls;
     }
 

@@ -2,7 +2,6 @@
 use Rattle.std.specs.Prelude.{◌≡◌, ℕ, ◌+◌, ◌-◌, ◌≤◌, Bool, true, false, not, ◌&&◌, List, [], ◌∷◌, ◌++◌, nat_lt, option_map, if◌then◌else◌, IfSome}
 use Rattle.std.specs.declared.option.Option.{Option}
 use Rattle.kd_types.specs.declared.session_end.SessionEnd.{SessionEnd}
-use Rattle.kd_outside.specs.Causes.{count_after}
 use Rattle.std.specs.declared.option.Option.TheVariants.{None, Some}
 
 -- one side of a link: the bytes that are known of it, and how often it has failed
@@ -86,7 +85,7 @@ pub record Tells (before after : ClockState) (moment : ℕ) : Type 0 where
 -- a listener that gave a link: the first of those to come
 pub record Accepts (before after : ListenerState) (link : LinkState) : Type 0 where
   pub first : before.coming ≡ with_first link after.coming
-  pub gave : after.gave ≡ count_after before.gave
+  pub gave : after.gave ≡ before.gave + 1
   pub back : after.back ≡ before.back
   pub returned : after.returned ≡ before.returned
 
@@ -100,7 +99,7 @@ with_served link end n = record n {
 -- a binder that gave a listener: the first of those to come
 pub record Binds (before after : BinderState) (listener : ListenerState) : Type 0 where
   pub first : before.listeners ≡ with_first listener after.listeners
-  pub gave : after.gave ≡ count_after before.gave
+  pub gave : after.gave ≡ before.gave + 1
   pub rest : after ≡ record before { listeners = after.listeners; gave = after.gave }
 
 -- a clock that tells no moment and never fails

@@ -1,6 +1,6 @@
 //! A binder in memory, which gives the listeners and the clocks that it was made with.
 
-ghost use Rattle.std.specs.Prelude.{◌≡◌, ◌≤◌, ◌<◌, ◌+◌, ◌↔◌, option_map, IsTrue, IsErr, IfOk, OnErr};
+ghost use Rattle.std.specs.Prelude.{◌≡◌, ◌≤◌, ◌<◌, ◌+◌, ◌↔◌, length, option_map, IsTrue, IsErr, IfOk, OnErr};
 ghost use Rattle.std.specs.declared.option.Option.TheVariants.{Some};
 ghost use Rattle.kd_outside.specs.Causes.{HasCause};
 ghost use Rattle.kd_outside.specs.Told.{Binds, Lends, with_bound};
@@ -37,7 +37,8 @@ impl Model for ListBinder {
       calls = b.calls;
     } };
 
-    ghost invariant = { λ b. b.gave ≤ b.returned + b.listeners.out };
+    ghost invariant = { λ b. (b.returned ≡ length b.listeners.back)
+        × (b.gave ≡ b.returned + b.listeners.out) };
 }
 
 impl ListBinder {
@@ -103,6 +104,7 @@ impl Binder for ListBinder {
         ensures given { IfOk result
             (λ n. Binds (binder_state self.old) (binder_state self.new) (listener_state n)) }
         ensures path { IfOk result (λ n. n.path ≡ path.now) }
+        ensures counted { IfOk result (λ n. n.returned ≤ n.gave) }
         ensures failed { OnErr result
             (binder_state self.new
             ≡ record (binder_state self.old) { faults = (binder_state self.new).faults }) }
@@ -115,15 +117,18 @@ impl Binder for ListBinder {
             self.calls.count_fault();
             return Err(Failed);
         }
-        self.gave = self.gave.saturating_add(1);
+        let listener = self.listeners.hand_out();
+        self.gave += 1;
         self.calls.count();
-        Ok(self.listeners.hand_out().on_path(path))
+        Ok(listener.on_path(path))
     }
 
     /// Gives the next clock, or a spare one, which has no moments.
     fn clock(&mut self) -> ListClock
         ensures given { Lends (binder_state self.old) (binder_state self.new)
             (clock_state result) result.spare }
+        ensures gave { self.new.gave ≡ self.old.gave }
+        ensures returned { self.new.returned ≡ self.old.returned }
         ensures clock { result ≡ clock_of self.old }
         ensures after { self.new ≡ after_clock self.old }
     {

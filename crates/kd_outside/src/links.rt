@@ -1,6 +1,6 @@
 //! A listener in memory, which gives the links that it was made with.
 
-ghost use Rattle.std.specs.Prelude.{◌≡◌, ◌≤◌, ◌<◌, ◌+◌, ◌↔◌, IsTrue, IsErr, IfOk, OnErr};
+ghost use Rattle.std.specs.Prelude.{◌≡◌, ◌≤◌, ◌<◌, ◌+◌, ◌↔◌, length, IsTrue, IsErr, IfOk, OnErr};
 ghost use Rattle.std.specs.declared.option.Option.TheVariants.{Some};
 ghost use Rattle.kd_outside.specs.Causes.{HasCause};
 ghost use Rattle.kd_outside.specs.Told.{Accepts, with_served};
@@ -39,7 +39,8 @@ impl Model for ListListener {
       path = n.path;
     } };
 
-    ghost invariant = { λ n. n.gave ≤ n.returned + n.links.out };
+    ghost invariant = { λ n. (n.returned ≡ length n.links.back)
+        × (n.gave ≡ n.returned + n.links.out) };
 }
 
 impl ListListener {
@@ -76,7 +77,8 @@ impl ListListener {
 
     /// The listener, bound on this path.
     pub(crate) fn on_path(self, path: &str) -> ListListener
-        ensures { result ≡ on_path path.now self }
+        ensures bound { result ≡ on_path path.now self }
+        ensures counted { result.returned ≤ result.gave }
     {
         ListListener {
             path: ToldPath::of(path),
@@ -111,9 +113,10 @@ impl Listener for ListListener {
             self.calls.count_fault();
             return Err(Failed);
         }
-        self.gave = self.gave.saturating_add(1);
+        let link = self.links.hand_out();
+        self.gave += 1;
         self.calls.count();
-        Ok(self.links.hand_out())
+        Ok(link)
     }
 
     /// Keeps the link behind those that came back before it.

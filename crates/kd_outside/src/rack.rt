@@ -5,7 +5,7 @@
 //! 0        `back`           `items.len()`                 capacity
 //! ```
 
-ghost use Rattle.std.specs.Prelude.{◌≡◌, ◌+◌, ◌≤◌, ◌<◌, ◌∷◌, false, take, drop, nat_lt, vec_len, vec_capacity};
+ghost use Rattle.std.specs.Prelude.{◌≡◌, ◌+◌, ◌≤◌, ◌<◌, ◌∷◌, ◌^◌, false, length, take, drop, nat_lt, vec_len, vec_capacity};
 ghost use Rattle.std.specs.declared.option.Option.TheVariants.{Some};
 ghost use Rattle.kd_model.specs.Words.{is_empty};
 ghost use Rattle.kd_outside.specs.Racks.{Rack as RackValue, full_rack, next_of, with_one_out, with_one_back};
@@ -66,6 +66,8 @@ impl<T> Rack<T> {
         ensures first { self.old.coming ≡ result ∷ self.new.coming }
         ensures next { next_of self.old.coming ≡ Some result }
         ensures after { self.new ≡ with_one_out self.old }
+        // A vector has at most as many places as its type's greatest number.
+        ensures counted { length self.new.back + self.new.out < 2 ^ 64 }
     {
         self.out += 1;
         self.items.remove(self.back)

@@ -1,6 +1,6 @@
 //! What a service stands on: clocks, listeners that accept links, and binders that give both.
 
-ghost use Rattle.std.specs.Prelude.{◌≡◌, ◌<◌, ℕ, List, Bool, IfOk, OnErr};
+ghost use Rattle.std.specs.Prelude.{◌≡◌, ◌<◌, ◌≤◌, ℕ, List, Bool, IfOk, OnErr};
 ghost use Rattle.kd_outside.specs.Causes.{HasCause};
 ghost use Rattle.kd_outside.specs.Told.{ClockState, ListenerState, BinderState, Tells, Accepts, Binds, Lends, with_served, with_bound};
 
@@ -64,18 +64,21 @@ pub trait Binder {
     /// All that is told of the binder.
     ghost told: { Self → BinderState };
 
-    /// A listener on the path.
+    /// A listener on the path. No more links have come back to it than it gave.
     fn bind(&mut self, path: &str) -> Result<Self::N, Failed>
         ensures cause { HasCause (told self.old).faults (told self.new).faults result }
         ensures given { IfOk result (λ n. Binds (told self.old) (told self.new) (Self.N.told n)) }
         ensures path { IfOk result (λ n. Self.N.path n ≡ path.now) }
+        ensures counted { IfOk result (λ n. (Self.N.told n).returned ≤ (Self.N.told n).gave) }
         ensures failed { OnErr result
             (told self.new ≡ record (told self.old) { faults = (told self.new).faults }) };
 
-    /// A clock.
+    /// A clock. No listener is given or comes back with it.
     fn clock(&mut self) -> Self::C
-        ensures { Lends (told self.old) (told self.new) (Self.C.told result)
-            (Self.C.is_spare result) };
+        ensures given { Lends (told self.old) (told self.new) (Self.C.told result)
+            (Self.C.is_spare result) }
+        ensures gave { (told self.new).gave ≡ (told self.old).gave }
+        ensures returned { (told self.new).returned ≡ (told self.old).returned };
 
     /// Takes back the listener and the clock of a worker that has ended. A spare clock is dropped.
     fn back(&mut self, listener: Self::N, clock: Self::C)

@@ -1,6 +1,6 @@
 //! Links over Unix sockets. They tell nothing of content, and count each error.
 
-ghost use Rattle.std.specs.Prelude.{◌≡◌, ◌<◌, ◌^◌, refl, length, IfOk, OnErr};
+ghost use Rattle.std.specs.Prelude.{◌≡◌, ◌+◌, ◌<◌, ◌^◌, refl, length, IfOk, OnErr};
 ghost use Rattle.std.specs.declared.option.Option.TheVariants.{None};
 ghost use Rattle.std.specs.Io.{ReadsAtMost, WritesAtMost};
 ghost use Rattle.kd_outside.specs.Causes.{HasCause};
@@ -139,14 +139,16 @@ impl Model for UnixListen {
     ghost invariant = { λ n. n.gave < 2 ^ 64 };
 }
 
-/// The next connection, as a link.
-fn next_link(alloc: Global, inner: &UnixListener) -> Result<UnixLink, Failed>
-    ensures { IfOk result (λ l. l ≡ record { reads = 0; writes = 0 }) }
+/// The next connection, as a link, and the count of those that were given, with it. A count that
+/// stands at its type's end is a fault.
+fn next_link(alloc: Global, inner: &UnixListener, gave: u64) -> Result<(UnixLink, u64), Failed>
+    ensures link { IfOk result (λ r. r.0 ≡ record { reads = 0; writes = 0 }) }
+    ensures gave { IfOk result (λ r. r.1 ≡ gave + 1) }
 {
-    match inner.accept() {
-        Ok((stream, _)) => UnixLink::of(alloc, stream).map_err(|_| Failed),
-        Err(_) => Err(Failed),
-    }
+    let gave = gave.checked_add(1).ok_or(Failed)?;
+    let (stream, _) = inner.accept().map_err(|_| Failed)?;
+    let link = UnixLink::of(alloc, stream).map_err(|_| Failed)?;
+    Ok((link, gave))
 }
 
 impl UnixListen {
@@ -191,11 +193,11 @@ impl Listener for UnixListen {
             (self.new.listener ≡ record (self.old.listener) { faults = self.new.listener.faults }) }
         ensures path { self.new.path ≡ self.old.path }
     {
-        let Ok(link) = next_link(self.alloc, &self.inner) else {
+        let Ok((link, gave)) = next_link(self.alloc, &self.inner, self.gave) else {
             self.faults = self.faults.saturating_add(1);
             return Err(Failed);
         };
-        self.gave = self.gave.saturating_add(1);
+        self.gave = gave;
         Ok(link)
     }
 

@@ -1,6 +1,6 @@
 //! Sockets' files, bound and taken away. They tell nothing of content, and count each error.
 
-ghost use Rattle.std.specs.Prelude.{◌≡◌, ◌<◌, ◌^◌, false, IfOk, OnErr};
+ghost use Rattle.std.specs.Prelude.{◌≡◌, ◌+◌, ◌≤◌, ◌<◌, ◌^◌, false, IfOk, OnErr};
 ghost use Rattle.kd_outside.specs.Causes.{HasCause};
 ghost use Rattle.kd_outside.specs.Told.{BinderState, Binds, Lends, with_bound};
 ghost use Rattle.kd_outside.specs.Edges.{untold_binder};
@@ -80,6 +80,20 @@ fn listen<H: Files + Net>(handle: &H, path: &str) -> io::Result<UnixListener> {
     Ok(listener)
 }
 
+/// The listener, and the count of those that were given, with it. A count that stands at its
+/// type's end is a fault.
+fn next_listener<H: Files + Net>(
+    handle: &H,
+    path: &str,
+    gave: u64,
+) -> Result<(UnixListener, u64), Failed>
+    ensures { IfOk result (λ r. r.1 ≡ gave + 1) }
+{
+    let gave = gave.checked_add(1).ok_or(Failed)?;
+    let listener = listen(handle, path).map_err(|_| Failed)?;
+    Ok((listener, gave))
+}
+
 impl<H: Files + Net + time::Clock + AllocGlobal + Copy> Binder for UnixBinder<H> {
     type N = UnixListen;
 
@@ -91,18 +105,21 @@ impl<H: Files + Net + time::Clock + AllocGlobal + Copy> Binder for UnixBinder<H>
         ensures cause { HasCause self.old.faults self.new.faults result }
         ensures given { IfOk result (λ n. Binds self.old self.new n.listener) }
         ensures path { IfOk result (λ n. n.path ≡ path.now) }
+        ensures counted { IfOk result (λ n. n.listener.returned ≤ n.listener.gave) }
         ensures failed { OnErr result (self.new ≡ record (self.old) { faults = self.new.faults }) }
     {
-        let Ok(listener) = listen(&self.handle, path) else {
+        let Ok((listener, gave)) = next_listener(&self.handle, path, self.gave) else {
             self.faults = self.faults.saturating_add(1);
             return Err(Failed);
         };
-        self.gave = self.gave.saturating_add(1);
+        self.gave = gave;
         Ok(UnixListen::of(self.handle.alloc(), listener, path))
     }
 
     fn clock(&mut self) -> SysClock<H>
-        ensures { Lends self.old self.new result false }
+        ensures given { Lends self.old self.new result false }
+        ensures gave { self.new.gave ≡ self.old.gave }
+        ensures returned { self.new.returned ≡ self.old.returned }
     {
         SysClock::make(self.handle)
     }
