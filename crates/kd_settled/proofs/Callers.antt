@@ -41,13 +41,13 @@ use Rattle.kd_commands.proofs.Moving.{moves}
 use Rattle.kd_commands.proofs.Others.{others_stay}
 use Rattle.kd_commands.proofs.Staying.{of_given, planned}
 use Rattle.kd_settled.proofs.Settling.{of_unrefused}
-use Rattle.kd_settled.specs.Callers.{CallersAreAtHome, IsApart, IsKept, KeepersKeep, LeftSeatsAreFree, OldFreeTheirSeats, OthersStayAtHome, RepliesAnswer}
+use Rattle.kd_settled.specs.Callers.{CallersAreAtHome, IsApart, IsKept, KeepersAreNew, KeepersKeep, LeftSeatsAreFree, OldFreeTheirSeats, OthersStayAtHome, RepliesAnswer}
 use Rattle.kd_settled.specs.Owners.{is_there}
 use Rattle.kd_settled.specs.Room.{IsAtHome}
 use Rattle.kd_settled.specs.Settled.{IsSettled}
 use Rattle.kd_settled.proofs.Always.{at_home}
 use Rattle.kd_settled.proofs.Cases.{Cases, of_command}
-use Rattle.kd_settled.proofs.Coming.{made_there}
+use Rattle.kd_settled.proofs.Coming.{made_new, made_there}
 use Rattle.kd_settled.proofs.Endpoints.{gone_then, there_on, there_still}
 
 -- ---- replies
@@ -177,6 +177,39 @@ keepers_keep d k w x p s home e n is = go w.member is home e
     go (who.Conn id seat) same at h = absurd cc
     go (who.Keeper o) same at h = let one : o ≡ n = cc in rw one at (kept d o x p at h)
     go (who.Old o) same at h = absurd cc
+
+-- ---- a new keeper
+
+abbrev IsNew : Desk → WhoKind → Plan → Type 0
+IsNew d m p = (e : ℕ) → p.becomes ≡ who.Keeper e → (m ≡ who.Keeper e) ⊎ (is_there d.endpoints e ≡ false)
+
+new_keepers : (d : Desk) (m : WhoKind) → Cases d m (λ x p. IsNew d m p)
+unfolding byebye close_conn close_endpoint name_list tick
+new_keepers d m = record {
+  enters = λ new e h. absurd cc;
+  closes = λ e h. absurd cc;
+  comes = λ creds flags size send_mask receive_mask is none e h. absurd cc;
+  makes = λ creds is none e h. inr (let same : next_endpoint d ≡ e = cc in rw (sym same) (made_new d creds is none));
+  says_byebye = λ c live e h. absurd cc;
+  says_close = λ c live e h. absurd cc;
+  lists = λ c flags e h. absurd cc;
+  ticks = λ c moment e h. absurd cc;
+  sends = λ c flags priority dst source payload_type cookie last is live none e h. absurd cc;
+  acquires = λ c flags n v live is e h. absurd cc;
+  releases = λ c n e h. absurd cc;
+  adds_rule = λ c replace cookie is e h. absurd cc;
+  removes_rule = λ c cookie e h. absurd cc;
+  seals = λ c bytes n e h. absurd cc;
+  unseals = λ c number e h. absurd cc;
+  sets = λ c is e h. absurd cc;
+  keeps = λ n is its e h. inl (its ∙ h);
+  ends = λ n its e h. absurd cc;
+  learns_byebye = λ seat e h. absurd cc;
+  learns_close = λ seat e h. absurd cc;
+}
+
+pub keepers_are_new : KeepersAreNew
+keepers_are_new d k w x p s home e = of_command d w (λ y q. IsNew d w.member q) (new_keepers d w.member) x p e
 
 -- ---- seats
 

@@ -2,7 +2,7 @@
 use Rattle.std.proofs.Common.{◌≡◌, ℕ, ◌+◌, ◌-◌, ◌<◌, ◌≤◌, suc, Bool, true, false, cond, List, [], ◌∷◌, ◌++◌, length, get_or, set, Option, Some, None, Ok, refl, sym, ap, ◌∙◌, arith}
 use Rattle.std.specs.Prelude.{◌==◌, ◌||◌, ◌&&◌, not, is_some, is_none, nat_le, nat_lt, option_map, position, unwrap_or}
 use Rattle.std.specs.List.{AllByRecursion, position_or_len}
-use Rattle.std.proofs.lemmas.Bool.{and_from, and_parts, eqb-true, leb-false, le-leb, ltb-true, not-false, or_parts, or_right}
+use Rattle.std.proofs.lemmas.Bool.{and_from, and_parts, and_right, eqb-true, leb-false, le-leb, ltb-true, not-false, or_parts, or_right}
 use Rattle.std.proofs.lemmas.Bool.Decides.{nat_tests}
 use Rattle.std.proofs.lemmas.List.{get_or-set_same}
 use Rattle.kd_types.specs.declared.creds.Creds.{Creds}
@@ -212,6 +212,22 @@ there_made labels label places well new free =
         and_from (is_number (i + 1)) (is_some (get_or (set labels i (Some label)) (i + 1 - 1) None)) (number_of_place i (omega (arith, within, places)))
         (rw back (ap is_some (get_or-set_same labels i (Some label) None within)))
 
+none_isnt : (o : Option (List ℕ)) → is_none o ≡ true → is_some o ≡ false
+none_isnt None h = refl
+none_isnt (Some label) h = absurd cc
+
+-- and wasn't there before
+pub free_isnt_there : (labels : Labels) → is_none (free_place labels) ≡ false → is_there labels (unwrap_or (free_place labels) 0 + 1) ≡ false
+unfolding free_place
+free_isnt_there labels free = go (free_place labels) refl free
+  where
+    go : (o : Option ℕ) → free_place labels ≡ o → is_none o ≡ false → is_there labels (unwrap_or o 0 + 1) ≡ false
+    go None is h = absurd cc
+    go (Some i) is h =
+        let back : i + 1 - 1 ≡ i = omega arith in
+        let found = found_passes is_none labels (get_or labels i None) (first_at is_none labels i None is) in
+        and_right (is_number (i + 1)) (is_some (get_or labels (i + 1 - 1) None)) (rw back (none_isnt (get_or labels i None) found))
+
 -- its refusals leave a label and a place
 pub made_there :
     (d : Desk) (creds : Creds) (is : List WireItem) → length d.endpoints ≡ 8 → AllByRecursion (λ (t : Bool × Refusal). t.0 ≡ false) (endpoint_refusals d creds is)
@@ -220,6 +236,12 @@ unfolding endpoint_refusals
 made_there d creds is places none =
     there_made d.endpoints (label_in is) places
     (not-false (is_label (label_in is)) (or_parts (not (is_label (label_in is))) (some_of is_ill_named (entries_in is)) none.0).0) none.1.1.1.0 none.1.1.1.1.1.0
+
+pub made_new :
+    (d : Desk) (creds : Creds) (is : List WireItem) → AllByRecursion (λ (t : Bool × Refusal). t.0 ≡ false) (endpoint_refusals d creds is)
+    → is_there d.endpoints (next_endpoint d) ≡ false
+unfolding endpoint_refusals
+made_new d creds is none = free_isnt_there d.endpoints none.1.1.1.1.1.0
 
 pub made_settled : (d : Desk) (creds : Creds) (is : List WireItem) (p : Plan) → IsSettled d → endpoint_make d creds is ≡ Ok p → Then p
 unfolding endpoint_make with_endpoint

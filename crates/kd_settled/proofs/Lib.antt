@@ -5,6 +5,7 @@ pub mod Cases
 pub mod Claims
 pub mod Coming
 pub mod Counts
+pub mod Described
 pub mod Endpoints
 pub mod Leaving
 pub mod Lengths

@@ -1,6 +1,6 @@
 -- The requests after a message: whoever is to reply is there.
 use Rattle.std.proofs.Common.{◌≡◌, ℕ, ◌<◌, Bool, true, false, cond, List, [], ◌∷◌, ◌++◌, length, Option, Some, None, Ok, refl, sym, ap, ◌∙◌, arith}
-use Rattle.std.specs.Prelude.{◌==◌, ◌||◌, ◌&&◌, not, filter, is_some, nat_le}
+use Rattle.std.specs.Prelude.{◌==◌, ◌||◌, ◌&&◌, not, filter, is_none, is_some, nat_le}
 use Rattle.std.specs.List.{AllByRecursion}
 use Rattle.std.proofs.lemmas.Bool.{and_from, and_parts, eqb-true, leb-false, or_left, or_parts, or_right}
 use Rattle.kd_types.specs.Flags.{has_bits}
@@ -20,9 +20,11 @@ use Rattle.kd_commands.specs.State.{Desk, conn_of, has_id, is_activator, is_ordi
 use Rattle.kd_commands.specs.Items.{destination_name}
 use Rattle.kd_commands.specs.Messages.{expects, is_broadcast}
 use Rattle.kd_commands.specs.Plans.{Plan, unless}
-use Rattle.kd_commands.specs.Send.{asker_of, has_bad_cookie, is_misuse, is_reply, live_ordinary, receiver, refusals_by, refusals_of_unicast, requests_after, send_refusals, with_request}
+use Rattle.kd_commands.specs.Rights.{may_see, may_see_name}
+use Rattle.kd_commands.specs.Send.{asker_of, has_bad_cookie, is_misuse, is_reply, live_ordinary, receiver, refusals_by, refusals_of_unicast, requests_after, send, send_refusals, with_request}
 use Rattle.kd_commands.proofs.Staying.{planned}
 use Rattle.kd_settled.specs.Owners.{is_asked, lives, may_claim, sends}
+use Rattle.kd_settled.specs.Room.{UnicastsReach}
 use Rattle.kd_settled.specs.Settled.{AreClaims, AreRequests, IsSettled}
 use Rattle.kd_settled.proofs.Living.{found_is, found_lives, lives_found}
 use Rattle.kd_settled.proofs.Tables.{filtered_requests, one_request}
@@ -139,3 +141,37 @@ requests_then d c m s live a = go (expects m) refl
         ])
     go true is = asking is (receiver d m) refl
     go false is = answering (is_reply d c m)
+
+-- ---- a message to one
+
+all_first : {X : Type 0} (P : X → Type 0) (xs ys : List X) → AllByRecursion P (xs ++ ys) → AllByRecursion P xs
+all_first P [] ys a = tt
+all_first P (x ∷ xs) ys a = (a.0, all_first P xs ys a.1)
+
+there : {X : Type 0} (o : Option X) → is_none o ≡ false → (x : X) × (o ≡ Some x)
+there None h = absurd cc
+there (Some x) h = (x, refl)
+
+-- whoever owns a name is found
+owner_found : (d : Desk) (n : List ℕ) → IsSettled d → is_none (owner d.registry n) ≡ false → (r : Conn) × (conn_of d (owner_id d.registry n) ≡ Some r)
+owner_found d n s h =
+    let x = there (owner d.registry n) h in
+    let c = owner_lives d n x.0 s x.1 in
+    (c.0, ap (λ o. conn_of d (id_of o)) x.1 ∙ c.1)
+
+pub unicasts_reach : UnicastsReach
+unfolding send send_refusals
+unicasts_reach d c m p s e is =
+    let none : AllByRecursion (λ (t : Bool × Refusal). t.0 ≡ false) (send_refusals d c m) = none_hold (send_refusals d c m) _ p e in
+    let unicast : AllByRecursion (λ (t : Bool × Refusal). t.0 ≡ false) (refusals_of_unicast d c m) = rw is at none.1.1.1.1.1 in
+    go (destination_name m.items) refl (all_first (λ (t : Bool × Refusal). t.0 ≡ false) (refusals_by d c m (destination_name m.items)) _ unicast)
+  where
+    named : Option (List ℕ) → Option Conn
+    named o = elim o [ Some n ↦ conn_of d (owner_id d.registry n) | None ↦ live_ordinary d m.dst ]
+
+    go : (o : Option (List ℕ)) → destination_name m.items ≡ o → AllByRecursion (λ (t : Bool × Refusal). t.0 ≡ false) (refusals_by d c m o) → (r : Conn) × (receiver d m ≡ Some r)
+    go None none a =
+        there (receiver d m) (or_parts (is_none (receiver d m)) (not (may_see d c m.dst) && not (is_reply d c m)) a.0).0
+    go (Some n) some a =
+        let f = owner_found d n s (or_parts (is_none (owner d.registry n)) (not (may_see_name d c n) && not (is_reply d c m)) a.1.0).0 in
+        (f.0, ap named some ∙ f.1)

@@ -44,9 +44,13 @@ use Rattle.kd_commands.proofs.Finds.{filter_agrees, first_is_put, first_of_filte
 use Rattle.kd_commands.proofs.Gone.{contains_one}
 use Rattle.kd_commands.proofs.Members.{AreAlike, IsAlike, endpoint_alike, one_alike, seats_of, turned, without}
 use Rattle.kd_settled.specs.Settled.{IsSettled}
-use Rattle.kd_settled.specs.Sizes.{HasSizes, PoolsHaveSizes, size_along, size_at, size_by, size_then}
+use Rattle.kd_settled.specs.Sizes.{HasSizes, KeepsSizes, PoolsHaveSizes, SizesStay, size_along, size_at, size_then}
+use Rattle.kd_counts.specs.Sizes.{size_by}
+use Rattle.kd_commands.proofs.Moves.{Moves, arrives, ends, learns, leaves, stays}
+use Rattle.kd_commands.proofs.Moving.{moves}
 use Rattle.kd_commands.proofs.Seats.{found_is_free, free_has_none}
 use Rattle.kd_settled.proofs.Cases.{Cases, NoneHold, asked_by, of_command, plan_of, sent_by}
+use Rattle.kd_settled.proofs.Always.{at_home}
 use Rattle.kd_settled.proofs.Meeting.{isnt_let_be}
 
 -- ---- parts aside
@@ -233,3 +237,49 @@ sizes d m s = record {
 
 pub pools_have_sizes : PoolsHaveSizes
 pools_have_sizes d k w x p s home e = of_command d w (λ y q. HasSizes d q) (sizes d w.member s) x p e
+
+-- ---- where the first part ends all
+
+raise_goes_on : (seat size : ℕ) (rest : List Part) (outs : List Answer) (why : Refusal) → first_ends (record { seat = seat; act = raise size } ∷ rest) outs ≡ Some why → ⊥
+unfolding first_ends
+raise_goes_on seat size rest [] why e = absurd cc
+raise_goes_on seat size rest (refused r ∷ outs) why e = absurd cc
+raise_goes_on seat size rest (o ∷ outs) why e = absurd cc
+
+forced_goes_on : (c : Conn) (rest : List Part) (outs : List Answer) (why : Refusal) → first_ends (closing true c ∷ rest) outs ≡ Some why → ⊥
+unfolding first_ends
+forced_goes_on c rest [] why e = absurd cc
+forced_goes_on c rest (refused r ∷ outs) why e = absurd cc
+forced_goes_on c rest (o ∷ outs) why e = absurd cc
+
+let_be_then : (s : ℕ) (c : Conn) (r : Refusal) (was : Option ℕ) → size_then s (closing false c) (refused r) was ≡ was
+let_be_then s c r was = go (c.seat == s)
+  where
+    go : (b : Bool) → elim b [ true ↦ was | false ↦ was ] ≡ was
+    go true = refl
+    go false = refl
+
+closed_still :
+    (s : ℕ) (force : Bool) (c : Conn) (rest : List Part) (outs : List Answer) (was : Option ℕ) (why : Refusal) → AreAside rest
+    → first_ends (closing force c ∷ rest) outs ≡ Some why → size_along s (closing force c ∷ rest) outs was ≡ was
+unfolding size_along first_ends
+closed_still s true c rest outs was why a e = absurd (forced_goes_on c rest outs why e)
+closed_still s false c rest [] was why a e = refl
+closed_still s false c rest (refused r ∷ outs) was why a e = size_aside s rest outs (size_then s (closing false c) (refused r) was) a ∙ let_be_then s c r was
+closed_still s false c rest (o ∷ outs) was why a e = absurd cc
+
+ended_still :
+    (s : ℕ) (gone : List Conn) (rest : List Part) (outs : List Answer) (was : Option ℕ) (why : Refusal) → AreAside rest
+    → first_ends (map (closing true) gone ++ rest) outs ≡ Some why → size_along s (map (closing true) gone ++ rest) outs was ≡ was
+ended_still s [] rest outs was why a e = size_aside s rest outs was a
+ended_still s (g ∷ gs) rest outs was why a e = absurd (forced_goes_on g (map (closing true) gs ++ rest) outs why e)
+
+still : (d : Desk) (m : WhoKind) (p : Plan) → Moves d m p → KeepsSizes d p
+still d m p (stays t) = λ outs s why e. size_aside s p.parts outs (size_at d s) t.aside
+still d m p (arrives t) = λ outs s why. rw t.parts (λ e. absurd (raise_goes_on t.one.seat t.size t.rest outs why e))
+still d m p (leaves t) = λ outs s why. rw t.parts (closed_still s t.force t.one t.rest outs (size_at d s) why t.aside)
+still d m p (ends t) = λ outs s why. rw t.parts (ended_still s (on_endpoint d t.endpoint) t.rest outs (size_at d s) why t.aside)
+still d m p (learns t) = λ outs s why. rw t.parts (λ e. size_aside s [] outs (size_at d s) tt)
+
+pub sizes_stay : SizesStay
+sizes_stay d k w x p s home e = still d w.member p (moves d k w x p (at_home d k w.member home) e)

@@ -44,6 +44,13 @@ abbrev pub KeepersKeep : Type 0
 KeepersKeep =
     BySettled (λ d k w x p. (e : ℕ) → w.member ≡ who.Keeper e → IsKept p.next e p.becomes)
 
+-- whoever becomes a keeper keeps an endpoint that wasn't there
+abbrev pub KeepersAreNew : Type 0
+KeepersAreNew =
+    BySettled (λ d k w x p.
+    (e : ℕ) → p.becomes ≡ who.Keeper e
+    → (w.member ≡ who.Keeper e) ⊎ (is_there d.endpoints e ≡ false))
+
 -- a seat that its caller left is free
 abbrev pub LeftSeatsAreFree : Type 0
 LeftSeatsAreFree =

@@ -1,6 +1,6 @@
 -- What follows of a settled desk: its tables have the room that they need, and whoever something
 -- belongs to is found.
-use Rattle.std.specs.Prelude.{◌≡◌, ◌<◌, ◌≤◌, ◌*◌, ◌==◌, ℕ, true, List, length, Some, Option, Ok}
+use Rattle.std.specs.Prelude.{◌≡◌, ◌<◌, ◌≤◌, ◌*◌, ◌==◌, ℕ, true, false, List, length, Some, Option, Ok}
 use Rattle.std.specs.List.{AllByRecursion}
 use Rattle.kd_types.specs.declared.creds.Kind.{Kind}
 use Rattle.kd_model.specs.Words.{contains, those}
@@ -11,12 +11,15 @@ use Rattle.kd_seal.specs.Book.{is_seal_of}
 use Rattle.kd_match.specs.Rules.{rules_of}
 use Rattle.kd_replies.specs.Requests.{is_asked_by}
 use Rattle.kd_commands.specs.declared.conn.Conn.{Conn}
+use Rattle.kd_commands.specs.declared.sent.Sent.{Sent}
 use Rattle.kd_commands.specs.declared.who.Who.{Who}
 use Rattle.kd_commands.specs.declared.who.WhoKind.{WhoKind}
 use Rattle.kd_commands.specs.declared.who.WhoKind.TheVariants as who
 use Rattle.kd_commands.specs.State.{Desk, conn_of, opening_desk}
 use Rattle.kd_commands.specs.Hello.{free_seat}
+use Rattle.kd_commands.specs.Messages.{is_broadcast}
 use Rattle.kd_commands.specs.Plans.{Plan}
+use Rattle.kd_commands.specs.Send.{receiver, send}
 use Rattle.kd_commands.specs.Seating.{IsPlaced}
 use Rattle.kd_commands.specs.Step.{plan}
 use Rattle.kd_settled.specs.Owners.{is_there, may_claim}
@@ -80,3 +83,9 @@ abbrev pub OwnersAreLive : Type 0
 OwnersAreLive =
     (d : Desk) (n : List ℕ) (x : Claim) → IsSettled d → owner d.registry n ≡ Some x
     → (c : Conn) × (conn_of d x.id ≡ Some c) × (may_claim x c ≡ true)
+
+-- a message to one that isn't refused reaches somebody
+abbrev pub UnicastsReach : Type 0
+UnicastsReach =
+    (d : Desk) (c : Conn) (m : Sent) (p : Plan) → IsSettled d → send d c m ≡ Ok p
+    → is_broadcast m ≡ false → (r : Conn) × (receiver d m ≡ Some r)

@@ -1,9 +1,9 @@
 -- Which size each open pool has while a plan is visited: the one that its connection asked for.
 use Rattle.std.specs.Prelude.{◌≡◌, ◌==◌, ℕ, true, false, List, [], ◌∷◌, Option, Some, None, option_map}
 use Rattle.kd_model.specs.Words.{first}
-use Rattle.kd_acts.specs.Lasting.{is_let_be}
-use Rattle.kd_acts.specs.State.{Act, Answer, Hold, Pool, Visit, by_desk, close, raise}
-use Rattle.kd_acts.specs.Steps.{after, answer}
+use Rattle.kd_types.specs.declared.refusal.Refusal.{Refusal}
+use Rattle.kd_acts.specs.State.{Answer, by_desk}
+use Rattle.kd_counts.specs.Sizes.{size_by}
 use Rattle.kd_commands.specs.declared.conn.Conn.{Conn}
 use Rattle.kd_commands.specs.State.{Desk, has_seat}
 use Rattle.kd_commands.specs.Plans.{Part, Plan}
@@ -13,21 +13,6 @@ use Rattle.kd_settled.specs.Room.{BySettled}
 -- the size that the connection on a seat asked for; none where nobody sits
 unfoldable pub size_at : Desk → ℕ → Option ℕ
 size_at d s = option_map (λ (c : Conn). c.size) (first (has_seat s) d.conns)
-
--- the size of an open pool; none of a closed one
-abbrev pub size_of : Hold → Option ℕ
-size_of h = option_map (λ (p : Pool). p.size) h.pool
-
--- the size after an act that was answered so: a raise gives one, a close that isn't refused ends
--- it, and no other act changes it
-abbrev pub size_by : Act → Answer → Option ℕ → Option ℕ
-size_by (by_desk (raise size)) a was = Some size
-size_by (by_desk (close force)) a was = elim (is_let_be force a) [ true ↦ was | false ↦ None ]
-size_by _ a was = was
-
--- so it is of every pool
-abbrev pub SizesFollow : Type 0
-SizesFollow = (h : Hold) (a : Act) → size_of (after h a) ≡ size_by a (answer h a) (size_of h)
 
 -- the size of a seat's pool after a visit that was answered so
 abbrev pub size_then : ℕ → Part → Answer → Option ℕ → Option ℕ
@@ -47,3 +32,12 @@ HasSizes d p =
 
 abbrev pub PoolsHaveSizes : Type 0
 PoolsHaveSizes = BySettled (λ d k w x p. HasSizes d p)
+
+-- where the first part ends all, each has the size that it had
+abbrev pub KeepsSizes : Desk → Plan → Type 0
+KeepsSizes d p =
+    (outs : List Answer) (s : ℕ) (why : Refusal) → first_ends p.parts outs ≡ Some why
+    → size_along s p.parts outs (size_at d s) ≡ size_at d s
+
+abbrev pub SizesStay : Type 0
+SizesStay = BySettled (λ d k w x p. KeepsSizes d p)

@@ -1,11 +1,11 @@
 //! What every plan keeps of a desk, what follows of it, and what the parts of a plan meet.
 
-ghost use Rattle.kd_settled.specs.Callers.{CallersAreAtHome, KeepersKeep, LeftSeatsAreFree, OldFreeTheirSeats, OthersStayAtHome, RepliesAnswer};
-ghost use Rattle.kd_settled.specs.Lengths.{AttachedIsShort, ImagesFit};
+ghost use Rattle.kd_settled.specs.Callers.{CallersAreAtHome, KeepersAreNew, KeepersKeep, LeftSeatsAreFree, OldFreeTheirSeats, OthersStayAtHome, RepliesAnswer};
+ghost use Rattle.kd_settled.specs.Lengths.{AttachedIsShort, DescriptionsStay, ImagesFit};
 ghost use Rattle.kd_settled.specs.Parts.{IdsGoOn, PlansAreShort, VisitsMeetOpen};
 ghost use Rattle.kd_settled.specs.Rising.{AudiencesRise, BroadcastsRise};
-ghost use Rattle.kd_settled.specs.Sizes.{PoolsHaveSizes};
-ghost use Rattle.kd_settled.specs.Room.{FreeSeatsHaveRoom, ManyAreFew, OpensSettled, OwnersAreLive, SettledStays, TablesHaveRoom};
+ghost use Rattle.kd_settled.specs.Sizes.{PoolsHaveSizes, SizesStay};
+ghost use Rattle.kd_settled.specs.Room.{FreeSeatsHaveRoom, ManyAreFew, OpensSettled, OwnersAreLive, SettledStays, TablesHaveRoom, UnicastsReach};
 
 /// A new bus has a settled desk.
 pub fn a_new_desk_is_settled()
@@ -40,6 +40,12 @@ pub fn owners_are_live()
     ensures { OwnersAreLive }
 {}
 
+/// A message to one that isn't refused reaches somebody, an expected reply too: whoever asked is
+/// there.
+pub fn unicasts_reach()
+    ensures { UnicastsReach }
+{}
+
 /// An offer, a post, a drain, a settle and a close meet an open pool.
 pub fn visits_meet_open()
     ensures { VisitsMeetOpen }
@@ -49,6 +55,11 @@ pub fn visits_meet_open()
 /// asked for, and none is open where nobody sits.
 pub fn pools_have_sizes()
     ensures { PoolsHaveSizes }
+{}
+
+/// Where the refusal of its first part ends a plan, each pool has the size that it had.
+pub fn sizes_stay()
+    ensures { SizesStay }
 {}
 
 /// A plan has at most 2^20 parts.
@@ -81,6 +92,11 @@ pub fn images_fit()
     ensures { ImagesFit }
 {}
 
+/// What a connection calls itself has 255 bytes at most, where commands are well formed.
+pub fn descriptions_stay()
+    ensures { DescriptionsStay }
+{}
+
 /// All others stay at home: they stay who they are or wait to learn that they are gone, and only
 /// its keeper removes an endpoint.
 pub fn others_stay_at_home()
@@ -95,6 +111,11 @@ pub fn callers_are_at_home()
 /// A keeper keeps its endpoint, or it is none any more and the endpoint is gone.
 pub fn keepers_keep()
     ensures { KeepersKeep }
+{}
+
+/// Whoever becomes a keeper keeps an endpoint that wasn't there.
+pub fn keepers_are_new()
+    ensures { KeepersAreNew }
 {}
 
 /// A seat that its caller left is free.

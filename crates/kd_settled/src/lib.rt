@@ -21,7 +21,8 @@ mod laws;
 
 pub use laws::{
     a_new_desk_is_settled, attached_is_short, audiences_rise, broadcasts_rise, callers_are_at_home,
-    free_seats_have_room, ids_go_on, images_fit, keepers_keep, left_seats_are_free, many_are_few,
-    old_free_their_seats, others_stay_at_home, owners_are_live, plans_are_short, pools_have_sizes,
-    replies_answer, tables_have_room, the_desk_stays_settled, visits_meet_open,
+    descriptions_stay, free_seats_have_room, ids_go_on, images_fit, keepers_are_new, keepers_keep,
+    left_seats_are_free, many_are_few, old_free_their_seats, others_stay_at_home, owners_are_live,
+    plans_are_short, pools_have_sizes, replies_answer, sizes_stay, tables_have_room,
+    the_desk_stays_settled, unicasts_reach, visits_meet_open,
 };
