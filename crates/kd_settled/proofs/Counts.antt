@@ -4,7 +4,7 @@ use Rattle.std.proofs.Common.{◌≡◌, ℕ, ◌+◌, ◌*◌, ◌<◌, ◌≤�
 use Rattle.std.specs.Prelude.{◌==◌, ◌||◌, not, filter, nat_lt}
 use Rattle.std.specs.List.{AllByRecursion}
 use Rattle.std.proofs.Math.Nat.{suc-mul}
-use Rattle.std.proofs.lemmas.Bool.{ltb-true, not-true}
+use Rattle.std.proofs.lemmas.Bool.{eqb-true, ltb-true, not-true}
 use Rattle.kd_model.specs.Words.{contains, put_in_order, some_of}
 use Rattle.kd_model.proofs.Lists.{all_follow}
 use Rattle.kd_replies.specs.Order.{Rises}
@@ -119,3 +119,32 @@ rising_few {X} key (x ∷ xs) m n le low r high =
   where
     over : (y : X) → nat_lt (key x) (key y) ≡ true → key x + 1 ≤ key y
     over y h = omega (arith, ltb-true (key x) (key y) h)
+
+-- and fewer than that, where one of them has fewer than it may
+pub many_fewer :
+    {X : Type 0} (key : X → ℕ) (ids : List ℕ) (most id : ℕ) (xs : List X) → AllByRecursion (λ x. contains (key x) ids ≡ true) xs
+    → ((i : ℕ) → count (λ x. key x == i) xs ≤ most) → contains id ids ≡ true → count (λ x. key x == id) xs < most → length xs < length ids * most
+many_fewer key [] most id xs a few inside room = absurd (let never : false ≡ true = inside in cc)
+many_fewer {X} key (i ∷ ids) most id xs a few inside room =
+    go (id == i) refl inside (many_few key ids most others stay fewer) (λ there. many_fewer key ids most id others stay fewer there (omega (arith, room, count_fewer (λ x. key x == id) (λ x. not (key x == i)) xs)))
+  where
+    others : List X
+    others = filter (λ x. not (key x == i)) xs
+
+    stays : (x : X) → contains (key x) (i ∷ ids) ≡ true → not (key x == i) ≡ true → contains (key x) ids ≡ true
+    stays x h other = ap (λ b. b || contains (key x) ids) (sym (not-true (key x == i) other)) ∙ h
+
+    stay : AllByRecursion (λ x. contains (key x) ids ≡ true) others
+    stay =
+        all_that_pass (λ x. contains (key x) ids ≡ true) (λ x. not (key x == i)) xs
+        (all_follow (λ x. contains (key x) (i ∷ ids) ≡ true) (λ x. not (key x == i) ≡ true → contains (key x) ids ≡ true) xs stays a)
+
+    fewer : (n : ℕ) → count (λ x. key x == n) others ≤ most
+    fewer n = omega (arith, count_fewer (λ x. key x == n) (λ x. not (key x == i)) xs, few n)
+
+    go : (b : Bool) → (id == i) ≡ b → (b || contains id ids) ≡ true → length others ≤ length ids * most → (contains id ids ≡ true → length others < length ids * most)
+        → length xs < length (i ∷ ids) * most
+    go true is there rest more =
+        let same : id ≡ i = eqb-true id i is in
+        omega (arith, ap (λ n. count (λ x. key x == n) xs) same, room, count_both (λ x. key x == i) xs, rest, step_times (length ids) most)
+    go false is there rest more = omega (arith, few i, count_both (λ x. key x == i) xs, more there, step_times (length ids) most)

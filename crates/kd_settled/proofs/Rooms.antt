@@ -1,6 +1,6 @@
 -- Why the tables of a settled desk have room.
 use Rattle.std.proofs.Common.{◌≡◌, ℕ, ◌+◌, ◌*◌, ◌<◌, ◌≤◌, Bool, true, false, cond, List, [], ◌∷◌, length, map, Some, refl, sym, ap, ◌∙◌, arith}
-use Rattle.std.specs.Prelude.{◌==◌, ◌||◌, ◌&&◌, filter, nat_lt}
+use Rattle.std.specs.Prelude.{◌==◌, ◌||◌, ◌&&◌, filter, nat_lt, not}
 use Rattle.std.specs.Cmp.{IsStrictWeakOrder}
 use Rattle.std.specs.List.{AllByRecursion, IsDistinct}
 use Rattle.std.specs.List.Sorted.{ties}
@@ -13,6 +13,8 @@ use Rattle.kd_model.proofs.Lists.{all_follow, all_of_put, all_over}
 use Rattle.kd_acts.proofs.Arrived.{each}
 use Rattle.kd_registry.specs.declared.claim.Claim.{Claim}
 use Rattle.kd_match.specs.declared.rule.Rule.{Rule}
+use Rattle.kd_match.specs.Rules.{is_named, rules_left, rules_of}
+use Rattle.kd_seal.specs.Book.{has_counted}
 use Rattle.kd_seal.specs.declared.seals.Counter.{Counter}
 use Rattle.kd_seal.specs.declared.seals.Seal.{Seal}
 use Rattle.kd_replies.specs.Order.{Rises}
@@ -26,9 +28,10 @@ use Rattle.kd_commands.proofs.Finds.{none_pass}
 use Rattle.kd_commands.proofs.Members.{turned}
 use Rattle.kd_commands.proofs.Seats.{found_is_free, free_below, free_has_none}
 use Rattle.kd_settled.specs.Owners.{is_asked, lives, may_claim, sends}
-use Rattle.kd_settled.specs.Room.{FreeSeatsHaveRoom, HasRoom, ManyAreFew, OwnersAreLive, TablesHaveRoom}
-use Rattle.kd_settled.specs.Settled.{IsSettled}
-use Rattle.kd_settled.proofs.Counts.{count, count_cons, count_none, length_put, many_few, rising_few}
+use Rattle.kd_settled.specs.Room.{FreeSeatsHaveRoom, HasRoom, HasRoomFor, ManyAreFew, OwnersAreLive, SendersHaveRoom, TablesHaveRoom}
+use Rattle.kd_settled.specs.Settled.{AreRules, IsSettled}
+use Rattle.kd_settled.proofs.Counts.{count, count_cons, count_none, length_put, many_few, many_fewer, rising_few}
+use Rattle.kd_settled.proofs.Tables.{filtered_rules}
 use Rattle.kd_settled.proofs.Senders.{owner_lives}
 
 pub many_are_few : ManyAreFew
@@ -91,6 +94,49 @@ tables_have_room d s = record {
 
     ids : length (ids_of d.conns) ≡ length d.conns
     ids = length-map d.conns (λ (c : Conn). c.id)
+
+-- ---- one more
+
+fewer_theirs :
+    {X : Type 0} (key : X → ℕ) (test : X → Conn → Bool) (cs : List Conn) (most id : ℕ) (xs : List X)
+    → AllByRecursion (λ x. lives (test x) cs (key x) ≡ true) xs → ((i : ℕ) → count (λ x. key x == i) xs ≤ most) → lives sends cs id ≡ true
+    → count (λ x. key x == id) xs < most → length xs < length (ids_of cs) * most
+fewer_theirs key test cs most id xs owned few live room =
+    many_fewer key (ids_of cs) most id xs
+    (all_follow (λ x. lives (test x) cs (key x) ≡ true) (λ x. contains (key x) (ids_of cs) ≡ true) xs (λ x h. contains_lives (test x) cs (key x) h) owned) few
+    (contains_lives sends cs id live) room
+
+pub senders_have_room : SendersHaveRoom
+senders_have_room d id s live = record {
+  rules = left;
+  seals = λ room. omega (arith, few, ids, fewer_theirs (λ (x : Seal). x.id) (λ x. sends) d.conns 16 id d.seals.seals s.seals.owned s.seals.few live room);
+  counters = λ none.
+      omega (
+        arith,
+        few,
+        ids,
+        fewer_theirs (λ (k : Counter). k.id) (λ k. sends) d.conns 1 id d.seals.counters s.seals.counted (λ i. one_each d.seals.counters i s.seals.own_counters) live (uncounted none),
+      );
+  requests = λ room. omega (arith, few, ids, fewer_theirs (λ (q : Request). q.asker) (λ q. sends) d.conns 128 id d.requests s.requests.askers s.requests.few live room);
+}
+  where
+    few : length d.conns ≤ 64
+    few = few_conns d s
+
+    ids : length (ids_of d.conns) ≡ length d.conns
+    ids = length-map d.conns (λ (c : Conn). c.id)
+
+    uncounted : has_counted d.seals id ≡ false → count (λ (k : Counter). k.id == id) d.seals.counters < 1
+    uncounted none = omega (arith, count_none (λ (k : Counter). k.id == id) d.seals.counters (none_pass (λ (k : Counter). k.id == id) d.seals.counters none))
+
+    fewer : (cookie : ℕ) (replace : Bool) → AreRules d.conns (rules_left d.rules.rules id cookie replace)
+    fewer cookie true = filtered_rules d.conns d.rules.rules (λ r. not (is_named id cookie r)) s.rules
+    fewer cookie false = s.rules
+
+    left : (cookie : ℕ) (replace : Bool) → length (rules_of id (rules_left d.rules.rules id cookie replace)) < 64 → length (rules_left d.rules.rules id cookie replace) < 4096
+    left cookie replace room =
+        let kept : AreRules d.conns (rules_left d.rules.rules id cookie replace) = fewer cookie replace in
+        omega (arith, few, ids, fewer_theirs (λ (r : Rule). r.id) (λ r. sends) d.conns 64 id (rules_left d.rules.rules id cookie replace) kept.owned kept.few live room)
 
 -- ---- a free seat
 

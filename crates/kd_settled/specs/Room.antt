@@ -1,14 +1,15 @@
 -- What follows of a settled desk: its tables have the room that they need, and whoever something
 -- belongs to is found.
-use Rattle.std.specs.Prelude.{◌≡◌, ◌<◌, ◌≤◌, ◌*◌, ◌==◌, ℕ, true, false, List, length, Some, Option, Ok}
+use Rattle.std.specs.Prelude.{◌≡◌, ◌<◌, ◌≤◌, ◌*◌, ◌==◌, ℕ, Bool, true, false, List, length, Some, Option, Ok}
 use Rattle.std.specs.List.{AllByRecursion}
 use Rattle.kd_types.specs.declared.creds.Kind.{Kind}
 use Rattle.kd_model.specs.Words.{contains, those}
 use Rattle.kd_wire.specs.declared.command.Command.{Command}
 use Rattle.kd_registry.specs.declared.claim.Claim.{Claim}
 use Rattle.kd_registry.specs.Claims.{owner}
-use Rattle.kd_seal.specs.Book.{is_seal_of}
-use Rattle.kd_match.specs.Rules.{rules_of}
+use Rattle.kd_seal.specs.Book.{has_counted, is_seal_of}
+use Rattle.kd_match.specs.Rules.{rules_left, rules_of}
+use Rattle.kd_match.specs.declared.rule.Rule.{Rule}
 use Rattle.kd_replies.specs.Requests.{is_asked_by}
 use Rattle.kd_commands.specs.declared.conn.Conn.{Conn}
 use Rattle.kd_commands.specs.declared.sent.Sent.{Sent}
@@ -22,7 +23,7 @@ use Rattle.kd_commands.specs.Plans.{Plan}
 use Rattle.kd_commands.specs.Send.{receiver, send}
 use Rattle.kd_commands.specs.Seating.{IsPlaced}
 use Rattle.kd_commands.specs.Step.{plan}
-use Rattle.kd_settled.specs.Owners.{is_there, may_claim}
+use Rattle.kd_settled.specs.Owners.{is_there, lives, may_claim, sends}
 use Rattle.kd_settled.specs.Settled.{IsSettled}
 
 -- a new bus has a settled desk
@@ -70,6 +71,21 @@ pub record HasRoom (d : Desk) : Type 0 where
 
 abbrev pub TablesHaveRoom : Type 0
 TablesHaveRoom = (d : Desk) → IsSettled d → HasRoom d
+
+-- a connection that has less than it may finds room for more; of rules, also in place of those that
+-- a new one replaces
+pub record HasRoomFor (d : Desk) (id : ℕ) : Type 0 where
+  pub rules :
+      (cookie : ℕ) (replace : Bool)
+      → let left : List Rule = rules_left d.rules.rules id cookie replace in
+      length (rules_of id left) < 64 → length left < 4096
+  pub seals : length (those (is_seal_of id) d.seals.seals) < 16 → length d.seals.seals < 1024
+  pub counters : has_counted d.seals id ≡ false → length d.seals.counters < 64
+  pub requests : length (those (is_asked_by id) d.requests) < 128 → length d.requests < 8192
+
+abbrev pub SendersHaveRoom : Type 0
+SendersHaveRoom =
+    (d : Desk) (id : ℕ) → IsSettled d → lives sends d.conns id ≡ true → HasRoomFor d id
 
 -- where a seat is free there is room for a connection
 abbrev pub FreeSeatsHaveRoom : Type 0

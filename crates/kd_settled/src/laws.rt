@@ -5,7 +5,7 @@ ghost use Rattle.kd_settled.specs.Lengths.{AttachedIsShort, DescriptionsStay, Im
 ghost use Rattle.kd_settled.specs.Parts.{IdsGoOn, PlansAreShort, VisitsMeetOpen};
 ghost use Rattle.kd_settled.specs.Rising.{AudiencesRise, BroadcastsRise};
 ghost use Rattle.kd_settled.specs.Sizes.{PoolsHaveSizes, SizesStay};
-ghost use Rattle.kd_settled.specs.Room.{FreeSeatsHaveRoom, ManyAreFew, OpensSettled, OwnersAreLive, SettledStays, TablesHaveRoom, UnicastsReach};
+ghost use Rattle.kd_settled.specs.Room.{FreeSeatsHaveRoom, ManyAreFew, OpensSettled, OwnersAreLive, SendersHaveRoom, SettledStays, TablesHaveRoom, UnicastsReach};
 
 /// A new bus has a settled desk.
 pub fn a_new_desk_is_settled()
@@ -28,6 +28,11 @@ pub fn many_are_few()
 /// A settled desk has 64 connections at most, and no table holds more than 64 of them may have.
 pub fn tables_have_room()
     ensures { TablesHaveRoom }
+{}
+
+/// A connection that has less than it may finds room for more.
+pub fn senders_have_room()
+    ensures { SendersHaveRoom }
 {}
 
 /// Where a seat is free there is room for one more connection.

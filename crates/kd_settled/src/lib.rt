@@ -23,6 +23,6 @@ pub use laws::{
     a_new_desk_is_settled, attached_is_short, audiences_rise, broadcasts_rise, callers_are_at_home,
     descriptions_stay, free_seats_have_room, ids_go_on, images_fit, keepers_are_new, keepers_keep,
     left_seats_are_free, many_are_few, old_free_their_seats, others_stay_at_home, owners_are_live,
-    plans_are_short, pools_have_sizes, replies_answer, sizes_stay, tables_have_room,
-    the_desk_stays_settled, unicasts_reach, visits_meet_open,
+    plans_are_short, pools_have_sizes, replies_answer, senders_have_room, sizes_stay,
+    tables_have_room, the_desk_stays_settled, unicasts_reach, visits_meet_open,
 };
