@@ -102,6 +102,10 @@ counts_one (change.Unblocks seat) d = omega arith
 counts_one (change.Answers asker cookie) d = omega arith
 counts_one (change.Acquires id flags n verdict) d = omega arith
 counts_one (change.Releases id n) d = omega arith
+counts_one (change.Unseals id number) d = omega arith
+counts_one (change.AddsRule id cookie conditions replace) d = omega arith
+counts_one (change.RemovesRules id cookie) d = omega arith
+counts_one (change.Passes now) d = omega arith
 
 pub ids_by_one : (d : Desk) (p : Draft) (outs : List Out) → (ended_on d p outs).next.next_id ≤ d.next_id + 1
 unfolding ended_on drafted

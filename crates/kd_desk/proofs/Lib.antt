@@ -12,3 +12,6 @@ pub mod Listed
 pub mod Offering
 pub mod Sorted
 pub mod Planned
+pub mod Quiet
+pub mod Rules
+pub mod Dues

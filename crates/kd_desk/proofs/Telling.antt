@@ -68,6 +68,7 @@ told_without d (news.Owner x) id c apart =
     ap (λ b. is_monitor c.kind || false || (is_ordinary c.kind && (b && asks_for (without_conns d (id ∷ [])) c (change_told x.now)))) (sees_without d id c x.now.name)
     ∙ ap (λ b. is_monitor c.kind || false || (is_ordinary c.kind && (may_see_name d c x.now.name && b))) (admits_without d.rules id c.id (change_told x.now) apart)
 told_without d (news.Dead asker cookie) id c apart = refl
+told_without d (news.Late asker cookie) id c apart = refl
 
 filter_twice : {X : Type 0} (gone p q : X → Bool) → ((x : X) → gone x ≡ false → p x ≡ q x) → (xs : List X) → filter p (but_those gone xs) ≡ filter (λ x. not (gone x) && q x) xs
 filter_twice gone p q h [] = refl
@@ -90,3 +91,4 @@ posts_without leaver d (news.Came id) = ap (map (posted (telling_of (news.Came i
 posts_without leaver d (news.Left id) = ap (map (posted (telling_of (news.Left id)))) (audience_without leaver d (news.Left id))
 posts_without leaver d (news.Owner x) = ap (map (posted (telling_of (news.Owner x)))) (audience_without leaver d (news.Owner x))
 posts_without leaver d (news.Dead asker cookie) = ap (map (posted (telling_of (news.Dead asker cookie)))) (audience_without leaver d (news.Dead asker cookie))
+posts_without leaver d (news.Late asker cookie) = ap (map (posted (telling_of (news.Late asker cookie)))) (audience_without leaver d (news.Late asker cookie))

@@ -95,3 +95,10 @@ contentless_posts d s ps a e = contentless [] ps refl (rw e (posts_visits d s a)
 -- nor does a plan that visits nobody
 pub nothing_offered : StandByOffers [] []
 nothing_offered = contentless [] [] refl tt
+
+-- nor do notices
+pub visitable_notices : (d : Desk) (ss : List Subject) (ps : List code.Part) → AllByRecursion IsSeated d.conns → parts_with [] ps ≡ notices d ss → AllByRecursion IsVisitable ps
+visitable_notices d ss ps a e = visitable_of ps (rw e (notices_visits d ss a))
+
+pub contentless_notices : (d : Desk) (ss : List Subject) (ps : List code.Part) → AllByRecursion IsSeated d.conns → parts_with [] ps ≡ notices d ss → StandByOffers [] ps
+contentless_notices d ss ps a e = contentless [] ps refl (rw e (notices_visits d ss a))

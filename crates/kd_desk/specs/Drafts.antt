@@ -5,7 +5,9 @@ use Rattle.kd_types.specs.declared.refusal.Refusal.{Refusal}
 use Rattle.kd_model.specs.Words.{but_those, put_in_order}
 use Rattle.kd_wire.specs.declared.reply.Reply.{Reply}
 use Rattle.kd_registry.specs.Claims.{asked, release_answer}
-use Rattle.kd_replies.specs.Requests.{request_waits}
+use Rattle.kd_match.specs.Rules.{rule_refusal, remove_refusal, rules_left, with_rule, without_rules}
+use Rattle.kd_seal.specs.Book.{unseal_answer, unsealed}
+use Rattle.kd_replies.specs.Requests.{is_due, request_waits}
 use Rattle.kd_acts.specs.State.{Content, raise, close, offer, post, drain, settle}
 use Rattle.kd_commands.specs.declared.who.WhoKind.{WhoKind}
 use Rattle.kd_desk.specs.declared.part.Part as code
@@ -92,6 +94,20 @@ applied (change.Answers asker cookie) d = record d {
 }
 applied (change.Acquires id flags n verdict) d = with_claim d id flags n verdict
 applied (change.Releases id n) d = without_claim d id n
+applied (change.Unseals id number) d = record d { seals = unsealed d.seals id number }
+applied (change.AddsRule id cookie conditions replace) d = record d {
+  rules =
+      with_rule d.rules (record {
+        id = id;
+        cookie = cookie;
+        conditions = conditions.items;
+      }) replace;
+}
+applied (change.RemovesRules id cookie) d = record d { rules = without_rules d.rules id cookie }
+applied (change.Passes now) d = record d {
+  moment = now;
+  requests = but_those (is_due now) d.requests;
+}
 
 -- a plan of the code, on the desk that it was made for
 unfoldable pub drafted : Desk → Draft → Plan
@@ -108,6 +124,11 @@ Fits d (change.Arrives c) = (length d.conns < 64) × (c.seat < 64) × (d.next_id
 Fits d (change.Acquires id flags n verdict) =
     (asked d.registry id n flags ≡ Ok verdict) × (length d.registry < 4160)
 Fits d (change.Releases id n) = (owner : ℕ) × (release_answer d.registry id n ≡ Ok owner)
+Fits d (change.Unseals id number) = unseal_answer d.seals id number ≡ Ok tt
+Fits d (change.AddsRule id cookie conditions replace) =
+    (rule_refusal d.rules id cookie conditions.items replace ≡ None)
+    × (length (rules_left d.rules.rules id cookie replace) < 4096)
+Fits d (change.RemovesRules id cookie) = remove_refusal d.rules id cookie ≡ None
 Fits d _ = Unit {0}
 
 -- the length of a slice

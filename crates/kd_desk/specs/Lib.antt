@@ -16,6 +16,8 @@ pub mod Arriving
 pub mod News
 -- steps: names and their owners
 pub mod Owners
+-- steps: what a rule asks for
+pub mod Asking
 -- steps: the lines of a listing
 pub mod Listing
 -- steps: messages to one receiver

@@ -5,7 +5,7 @@ use Rattle.kd_commands.specs.declared.conn.Conn.{Conn}
 use Rattle.kd_desk.specs.declared.notices.News.{News}
 use Rattle.kd_desk.specs.declared.notices.News.TheVariants as news
 use Rattle.kd_commands.specs.State.{Desk}
-use Rattle.kd_commands.specs.Audience.{Subject, Telling, id_add, id_remove, new_owner, reply_dead, owner_notice, is_told}
+use Rattle.kd_commands.specs.Audience.{Subject, Telling, id_add, id_remove, new_owner, reply_dead, reply_timeout, owner_notice, is_told}
 use Rattle.kd_commands.specs.Leaving.{without_conns}
 
 -- what is told
@@ -14,6 +14,7 @@ news_subject (news.Came id) = id_add id
 news_subject (news.Left id) = id_remove id
 news_subject (news.Owner c) = new_owner c.now
 news_subject (news.Dead asker cookie) = reply_dead asker cookie
+news_subject (news.Late asker cookie) = reply_timeout asker cookie
 
 -- its notice, and the id that its image names as destination
 abbrev pub telling_of : News → Telling
@@ -21,6 +22,7 @@ telling_of (news.Came id) = record { notice = notice.IdAdd id; dst = 0 }
 telling_of (news.Left id) = record { notice = notice.IdRemove id; dst = 0 }
 telling_of (news.Owner c) = record { notice = owner_notice c.now; dst = 0 }
 telling_of (news.Dead asker cookie) = record { notice = notice.ReplyDead cookie; dst = asker }
+telling_of (news.Late asker cookie) = record { notice = notice.ReplyTimeout cookie; dst = asker }
 
 -- it is the one that leaves
 abbrev pub is_leaver : Option ℕ → Conn → Bool

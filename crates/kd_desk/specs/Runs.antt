@@ -36,7 +36,7 @@ abbrev pub is_plain_send : SendFlags → ℕ → List WireItem → Bool
 is_plain_send flags dst is = not (has_bits flags.0 1) && not (dst == any) && all_of is_plain is
 
 -- ordinary connections on the default endpoint, without metadata; messages to one receiver, of
--- which no reply is expected; names
+-- which no reply is expected; names, rules, the moment, and what is sealed
 unfoldable pub is_planned : Command → Bool
 is_planned (cmd.Hello flags size send_mask receive_mask is) =
     flags.0 == 0 && send_mask == 0 && receive_mask == 0 && is_empty is
@@ -47,6 +47,10 @@ is_planned cmd.Close = true
 is_planned (cmd.NameAcquire flags n) = true
 is_planned (cmd.NameRelease n) = true
 is_planned (cmd.NameList flags) = true
+is_planned (cmd.MatchAdd replace cookie is) = true
+is_planned (cmd.MatchRemove cookie) = true
+is_planned (cmd.Tick moment) = true
+is_planned (cmd.Unseal number) = true
 is_planned (cmd.Enter creds) = true
 is_planned _ = false
 

@@ -1,8 +1,9 @@
 //! What a command changes on the desk.
 
 use kd_commands::Conn;
+use kd_match::Condition;
 use kd_registry::Verdict;
-use kd_types::{ConnId, Cookie, NameFlags, Seat, Text};
+use kd_types::{ConnId, Cookie, Moment, NameFlags, Seat, Text};
 
 /// The change that a plan holds ready, with all memory that it needs.
 #[derive(Debug, Drop)]
@@ -31,4 +32,23 @@ pub(crate) enum Change {
         id: ConnId,
         name: Text,
     },
+    /// The connection's seal of the number goes.
+    Unseals {
+        id: ConnId,
+        number: u64,
+    },
+    /// The connection has a rule more, in place of those of its cookie where it replaces them.
+    AddsRule {
+        id: ConnId,
+        cookie: Cookie,
+        conditions: Vec<Condition>,
+        replace: bool,
+    },
+    /// The connection's rules of the cookie go.
+    RemovesRules {
+        id: ConnId,
+        cookie: Cookie,
+    },
+    /// The moment goes on, and what is due goes.
+    Passes(Moment),
 }

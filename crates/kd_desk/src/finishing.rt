@@ -3,6 +3,7 @@
 ghost use Rattle.std.specs.Prelude.{◌≡◌, ◌==◌, ◌≤◌, ◌<◌, ◌^◌, ◌-◌, ℕ, [], ◌∷◌, length, nat_lt, position, vec_capacity, vec_len, Ok};
 ghost use Rattle.kd_model.specs.Words.{but_those, put_in_order};
 ghost use Rattle.kd_registry.specs.Claims.{asked, release_answer};
+ghost use Rattle.kd_replies.specs.Requests.{is_due};
 ghost use Rattle.kd_desk.specs.Drafts.{Fits, applied};
 ghost use Rattle.kd_commands.specs.State.{sits_before, unblocked};
 ghost use Rattle.kd_commands.specs.Leaving.{without_conns};
@@ -14,9 +15,10 @@ use crate::desk::{Desk, SEATS};
 use crate::part::{Out, Part};
 use crate::plan::Plan;
 use kd_commands::Conn;
+use kd_match::Condition;
 use kd_policy::Owner;
 use kd_registry::Verdict;
-use kd_types::{ConnId, NameFlags, Refusal, Seat, Text};
+use kd_types::{ConnId, Cookie, Moment, NameFlags, Refusal, Seat, Text};
 use kd_wire::Reply;
 
 /// Whether a refusal of the part, as the first, ends the command.
@@ -107,6 +109,15 @@ impl Desk {
                 verdict,
             } => self.acquire(id, flags, name, verdict),
             Change::Releases { id, name } => self.release(id, &name),
+            Change::Unseals { id, number } => self.seals.unseal(id, number).unwrap(),
+            Change::AddsRule {
+                id,
+                cookie,
+                conditions,
+                replace,
+            } => self.add_rule(id, cookie, conditions, replace),
+            Change::RemovesRules { id, cookie } => self.matches.remove(id, cookie).unwrap(),
+            Change::Passes(now) => self.pass(now),
         }
     }
 
@@ -159,6 +170,24 @@ impl Desk {
         {
             self.replies.rename(old, id);
         }
+    }
+
+    /// A connection has a rule more.
+    #[tactic(auto, unfolding(crate::specs::Drafts::applied, crate::specs::Drafts::Fits))]
+    fn add_rule(&mut self, id: ConnId, cookie: Cookie, conditions: Vec<Condition>, replace: bool)
+        requires fits { Fits self.old (Change.AddsRule id cookie conditions replace) }
+        ensures { self.new ≡ applied (Change.AddsRule id cookie conditions replace) self.old }
+    {
+        self.matches.add(id, cookie, conditions, replace).unwrap();
+    }
+
+    /// The moment goes on, and the requests that are due go.
+    fn pass(&mut self, now: Moment)
+        ensures { self.new
+            ≡ record self.old { moment = now; requests = but_those (is_due now) self.old.requests } }
+    {
+        self.moment = now;
+        self.replies.expire(now);
     }
 
     /// A connection gives up its claim on a name.

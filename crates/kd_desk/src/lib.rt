@@ -11,9 +11,10 @@
 //!
 //! What a plan is stands in `kd_commands`, command by command. The code plans the commands of
 //! `Runs`: HELLO of an ordinary connection on the default endpoint, SEND to one receiver without an
-//! expected reply, BYEBYE, CLOSE, ENTER, and the three on names; every other is refused as
-//! `Unsupported`. A planner is a file of its own: `hello`, `sending`, `leaving`, `naming`,
-//! `listing`; `finishing` makes the change of a plan.
+//! expected reply, BYEBYE, CLOSE, ENTER, TICK, UNSEAL, the two on rules and the three on names;
+//! every other is refused as `Unsupported`. A planner is a file of its own: `hello`, `sending`,
+//! `leaving`, `naming`, `listing`, `matching`, `sealing`, `ticking`; `finishing` makes the change of
+//! a plan.
 #![tactic(auto)]
 
 mod attaching;
@@ -24,6 +25,7 @@ mod finishing;
 mod hello;
 mod leaving;
 mod listing;
+mod matching;
 mod naming;
 mod notices;
 mod offers;
@@ -31,7 +33,9 @@ mod part;
 mod plan;
 mod planning;
 mod rights;
+mod sealing;
 mod sending;
+mod ticking;
 
 pub use content::Content;
 pub use desk::{Desk, SEATS};

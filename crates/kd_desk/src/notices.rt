@@ -28,6 +28,8 @@ pub(crate) enum News<'a> {
     Owner(&'a OwnerChange),
     /// Who was to reply to the request is gone.
     Dead { asker: ConnId, cookie: Cookie },
+    /// Nobody replied to the request in time.
+    Late { asker: ConnId, cookie: Cookie },
 }
 
 /// The notice of a name's new owner.
@@ -57,6 +59,9 @@ fn image_of(alloc: Global, news: &News) -> Result<Vec<u8>, AllocError>
         News::Dead { asker, cookie } => {
             build_notice(alloc, &Notice::ReplyDead { cookie: *cookie }, asker.0)
         }
+        News::Late { asker, cookie } => {
+            build_notice(alloc, &Notice::ReplyTimeout { cookie: *cookie }, asker.0)
+        }
     }
 }
 
@@ -72,7 +77,7 @@ fn is_asker(conn: &Conn, news: &News) -> bool
     ensures { result ≡ is_asker (news_subject news.now) conn.now }
 {
     match news {
-        News::Dead { asker, .. } => conn.id == *asker,
+        News::Dead { asker, .. } | News::Late { asker, .. } => conn.id == *asker,
         News::Came(_) | News::Left(_) | News::Owner(_) => false,
     }
 }
@@ -120,7 +125,7 @@ impl Desk {
             }
             News::Owner(change) => self.may_see_name(conn, &change.name)
                 && self.asks_for(conn, change),
-            News::Dead { .. } => false,
+            News::Dead { .. } | News::Late { .. } => false,
         }
     }
 

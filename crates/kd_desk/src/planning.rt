@@ -8,6 +8,7 @@ ghost use Rattle.kd_wire.specs.Opcodes.{opcode_number};
 ghost use Rattle.kd_wire.specs.WellFormed.{is_well_formed};
 ghost use Rattle.kd_desk.specs.Drafts.{PlanResult, quiet_draft};
 ghost use Rattle.kd_desk.specs.Runs.{answered, conn_answered, is_handover_by, is_not_run, is_plain, is_plain_send, is_planned, takes_over};
+ghost use Rattle.kd_commands.specs.Plans.{itself};
 ghost use Rattle.kd_commands.specs.State.{conn_of, is_ordinary};
 ghost use Rattle.kd_commands.specs.Step.{from_fresh, from_gone, from_old_keeper};
 ghost use Rattle.kd_commands.specs.declared.conn.Conn as conn;
@@ -51,7 +52,8 @@ fn are_plain(items: &[WireItem]) -> bool
 }
 
 /// Whether the command is run so far: ordinary connections on the default endpoint, without
-/// metadata; messages to one receiver, of which no reply is expected; names.
+/// metadata; messages to one receiver, of which no reply is expected; names, rules, the moment, and
+/// what is sealed.
 #[tactic(auto, unfolding(crate::specs::Runs::is_planned))]
 fn runs(cmd: &Command) -> bool
     ensures { result ≡ is_planned cmd.now }
@@ -77,6 +79,10 @@ fn runs(cmd: &Command) -> bool
         | Command::NameAcquire { .. }
         | Command::NameRelease { .. }
         | Command::NameList { .. }
+        | Command::MatchAdd { .. }
+        | Command::MatchRemove { .. }
+        | Command::Tick { .. }
+        | Command::Unseal { .. }
         | Command::Enter { .. } => true,
         _ => false,
     }
@@ -91,7 +97,7 @@ fn unsupported(cmd: &Command) -> Refusal
 }
 
 /// A plan that visits nobody.
-fn quiet(alloc: Global, reply: Reply, change: Change, after: WhoKind) -> Plan
+pub(crate) fn quiet(alloc: Global, reply: Reply, change: Change, after: WhoKind) -> Plan
     ensures { result ≡ quiet_draft reply change after }
 {
     Plan {
@@ -100,6 +106,16 @@ fn quiet(alloc: Global, reply: Reply, change: Change, after: WhoKind) -> Plan
         reply,
         change,
         after,
+    }
+}
+
+/// What a connection stays.
+pub(crate) fn itself(conn: &Conn) -> WhoKind
+    ensures { result ≡ itself conn.now }
+{
+    WhoKind::Conn {
+        id: conn.id,
+        seat: conn.seat,
     }
 }
 
@@ -224,6 +240,7 @@ impl Desk {
             Command::Byebye => self.plan_byebye(alloc, conn),
             Command::Close => self.plan_close(alloc, conn),
             Command::NameList { flags } => self.plan_name_list(alloc, conn, flags),
+            Command::Tick { moment } => self.plan_tick(alloc, conn, moment),
             _ => Err(Refusal::WrongState),
         }
     }
@@ -240,6 +257,7 @@ impl Desk {
             Command::Byebye => self.plan_byebye(alloc, conn),
             Command::Close => self.plan_close(alloc, conn),
             Command::NameList { flags } => self.plan_name_list(alloc, conn, flags),
+            Command::Tick { moment } => self.plan_tick(alloc, conn, moment),
             Command::Send {
                 flags,
                 priority,
@@ -264,6 +282,13 @@ impl Desk {
             ),
             Command::NameAcquire { flags, name } => self.plan_acquire(alloc, conn, flags, name),
             Command::NameRelease { name } => self.plan_release(alloc, conn, name),
+            Command::MatchAdd {
+                replace,
+                cookie,
+                items,
+            } => self.plan_match_add(alloc, conn, replace, cookie, items),
+            Command::MatchRemove { cookie } => self.plan_match_remove(alloc, conn, cookie),
+            Command::Unseal { number } => self.plan_unseal(alloc, conn, number),
             _ => Err(Refusal::WrongState),
         }
     }

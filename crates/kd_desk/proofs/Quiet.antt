@@ -1,0 +1,43 @@
+-- Plans that visit nobody.
+use Rattle.std.specs.Prelude.{◌≡◌, Option, Some, None, Result, Ok, Err, OnOk, refl}
+use Rattle.std.proofs.Common.{ap, sym}
+use Rattle.kd_types.specs.declared.refusal.Refusal.{Refusal}
+use Rattle.kd_wire.specs.declared.reply.Reply.{Reply}
+use Rattle.kd_match.specs.Rules.{result_of}
+use Rattle.kd_commands.specs.declared.conn.Conn.{Conn}
+use Rattle.kd_commands.specs.State.{Desk}
+use Rattle.kd_commands.specs.Plans.{Plan, itself, quiet}
+use Rattle.kd_desk.specs.declared.change.Change.{Change}
+use Rattle.kd_desk.specs.Drafts.{Fits, PlanResult, applied, drafted, quiet_draft}
+use Rattle.kd_desk.proofs.Visits.{nothing_offered}
+
+-- the plan of a change that fits, and of no visit
+pub quiet_planned : (d : Desk) (c : Conn) (r : Reply) (x : Change) (wanted : Result Plan Refusal) → Fits d x → wanted ≡ Ok (quiet c r (applied x d)) → PlanResult d wanted (Ok (quiet_draft r x (itself c)))
+unfolding drafted
+quiet_planned d c r x wanted fits e = (e, fits, tt, nothing_offered)
+
+-- by what a part of the desk answers
+abbrev answered : {X : Type 0} → Result X Refusal → Plan → Result Plan Refusal
+answered o p = elim o [ Err r ↦ Err r | Ok y ↦ Ok p ]
+
+pub by_answer : {X : Type 0} (o : Result X Refusal) (p : Plan) (x : X) → Ok x ≡ o → answered o p ≡ Ok p
+by_answer (Ok y) p x e = refl
+by_answer (Err r) p x e = absurd cc
+
+pub by_refusal : {X : Type 0} (o : Result X Refusal) (p : Plan) (why : Refusal) → Err why ≡ o → answered o p ≡ Err why
+by_refusal (Ok y) p why e = absurd cc
+by_refusal (Err r) p why e = let is : why ≡ r = cc in ap Err (sym is)
+
+-- what holds of a call that succeeded
+pub when_ok : {X P : Type 0} (r : Result X Refusal) (x : X) → r ≡ Ok x → OnOk r P → P
+when_ok (Ok y) x e f = f
+when_ok (Err why) x e f = absurd cc
+
+-- or by the refusal that it has
+pub not_refused : (o : Option Refusal) → Ok tt ≡ result_of o → o ≡ None
+not_refused None e = refl
+not_refused (Some r) e = absurd cc
+
+pub refused_by : (o : Option Refusal) (why : Refusal) → Err why ≡ result_of o → o ≡ Some why
+refused_by None why e = absurd cc
+refused_by (Some r) why e = let is : why ≡ r = cc in ap Some (sym is)
