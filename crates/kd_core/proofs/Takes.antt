@@ -35,7 +35,7 @@ of_this_bus (i ∷ is) h = absurd (true≢false (sym h))
 
 names_this_bus : (x : Command) → IsTrue (is_planned x) → names_other_bus x ≡ false
 unfolding is_planned
-names_this_bus (cmd.Hello flags size send_mask receive_mask is) h = of_this_bus is (right_true (flags.0 == 0 && send_mask == 0 && receive_mask == 0) (is_empty is) h)
+names_this_bus (cmd.Hello flags size send_mask receive_mask is) h = of_this_bus is (right_true (flags.0 == 0) (is_empty is) h)
 names_this_bus (cmd.EndpointMake is) h = absurd (true≢false (sym h))
 names_this_bus _ h = refl
 

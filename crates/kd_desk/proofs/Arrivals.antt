@@ -13,6 +13,7 @@ use Rattle.kd_acts.specs.State.{Content, raise}
 use Rattle.kd_desk.specs.declared.change.Change.TheVariants as change
 use Rattle.kd_desk.specs.declared.part.Part as code
 use Rattle.kd_commands.specs.declared.who.WhoKind.TheVariants as who
+use Rattle.kd_desk.specs.declared.hello.Wanted.{Wanted}
 use Rattle.kd_desk.specs.Arriving.{asked_plainly, plain_conn}
 use Rattle.kd_commands.specs.Audience.{audience, id_add, is_shown, is_told}
 use Rattle.kd_desk.specs.Drafts.{IsVisitable, StandByOffers, applied, drafted, parts_with}
@@ -32,53 +33,53 @@ filter_put p below x (y ∷ ys) e = go (below x y) (filter_put p below x ys e)
     go false ih = ap (λ zs. cond (p y) (y ∷ zs) zs) ih
 
 -- the newcomer isn't told of itself
-untold : (d : Desk) (id seat size : ℕ) (creds : Creds) → is_told d (id_add id) (plain_conn id seat creds size) ≡ false
+untold : (d : Desk) (id seat : ℕ) (w : Wanted) (creds : Creds) → is_told d (id_add id) (plain_conn id seat creds w) ≡ false
 unfolding is_shown
-untold d id seat size creds = let same : (id == id) ≡ true = grind (arith, nat_tests) in rw same refl
+untold d id seat w creds = let same : (id == id) ≡ true = grind (arith, nat_tests) in rw same refl
 
-posts_with : (d : Desk) (id seat size : ℕ) (creds : Creds) → posts (applied (change.Arrives (plain_conn id seat creds size)) d) (id_add id) ≡ posts d (id_add id)
+posts_with : (d : Desk) (id seat : ℕ) (w : Wanted) (creds : Creds) → posts (applied (change.Arrives (plain_conn id seat creds w)) d) (id_add id) ≡ posts d (id_add id)
 unfolding audience applied is_shown
-posts_with d id seat size creds = ap (map (posted (record { notice = IdAdd id; dst = 0 }))) (filter_put (is_told d (id_add id)) sits_before (plain_conn id seat creds size) d.conns (untold d id seat size creds))
+posts_with d id seat w creds = ap (map (posted (record { notice = IdAdd id; dst = 0 }))) (filter_put (is_told d (id_add id)) sits_before (plain_conn id seat creds w) d.conns (untold d id seat w creds))
 
 -- no seat is free
-pub hello_refused : (d : Desk) (creds : Creds) (size : ℕ) → free_seat d ≡ None → hello d creds (asked_plainly size) ≡ Err (TooMany 64)
+pub hello_refused : (d : Desk) (creds : Creds) (w : Wanted) → free_seat d ≡ None → hello d creds (asked_plainly w) ≡ Err (TooMany 64)
 unfolding hello hello_refusals newcomer
-hello_refused d creds size e = rw e refl
+hello_refused d creds w e = rw e refl
 
 -- the plan, with the reply that tells the newcomer who it is
-abbrev arrived : Desk → Creds → ℕ → ℕ → List Part → Plan
-arrived d creds size seat ps = record {
-  parts = record { seat = seat; act = raise size } ∷ ps;
+abbrev arrived : Desk → Creds → Wanted → ℕ → List Part → Plan
+arrived d creds w seat ps = record {
+  parts = record { seat = seat; act = raise w.size } ∷ ps;
   reply = reply.Hello d.next_id d.rules.size d.hashes;
-  next = applied (change.Arrives (plain_conn d.next_id seat creds size)) d;
+  next = applied (change.Arrives (plain_conn d.next_id seat creds w)) d;
   becomes = who.Conn d.next_id seat;
 }
 
-hello_free : (d : Desk) (creds : Creds) (size seat : ℕ) → free_seat d ≡ Some seat → hello d creds (asked_plainly size) ≡ Ok (arrived d creds size seat (notices (applied (change.Arrives (plain_conn d.next_id seat creds size)) d) (id_add d.next_id ∷ [])))
+hello_free : (d : Desk) (creds : Creds) (w : Wanted) (seat : ℕ) → free_seat d ≡ Some seat → hello d creds (asked_plainly w) ≡ Ok (arrived d creds w seat (notices (applied (change.Arrives (plain_conn d.next_id seat creds w)) d) (id_add d.next_id ∷ [])))
 unfolding hello hello_refusals newcomer with_newcomer applied
-hello_free d creds size seat free = rw free refl
+hello_free d creds w seat free = rw free refl
 
-drafted_alike : (d : Desk) (creds : Creds) (size seat : ℕ) (qs : List code.Part) (cs : List (Option Content)) → cs ≡ [] → parts_with [] qs ≡ record { seat = seat; act = raise size } ∷ posts d (id_add d.next_id)
-    → arrived d creds size seat (posts d (id_add d.next_id)) ≡ drafted d (record { parts = qs; contents = cs; reply = reply.Hello d.next_id d.rules.size d.hashes; change = change.Arrives (plain_conn d.next_id seat creds size); after = who.Conn d.next_id seat })
+drafted_alike : (d : Desk) (creds : Creds) (w : Wanted) (seat : ℕ) (qs : List code.Part) (cs : List (Option Content)) → cs ≡ [] → parts_with [] qs ≡ record { seat = seat; act = raise w.size } ∷ posts d (id_add d.next_id)
+    → arrived d creds w seat (posts d (id_add d.next_id)) ≡ drafted d (record { parts = qs; contents = cs; reply = reply.Hello d.next_id d.rules.size d.hashes; change = change.Arrives (plain_conn d.next_id seat creds w); after = who.Conn d.next_id seat })
 unfolding drafted
-drafted_alike d creds size seat qs cs e h = rw (e, h) refl
+drafted_alike d creds w seat qs cs e h = rw (e, h) refl
 
 -- what the code plans is what is asked for
-pub hello_planned : (d : Desk) (creds : Creds) (size seat : ℕ) (qs : List code.Part) (cs : List (Option Content)) → free_seat d ≡ Some seat → cs ≡ [] → parts_with [] qs ≡ record { seat = seat; act = raise size } ∷ posts d (id_add d.next_id)
-    → hello d creds (asked_plainly size) ≡ Ok (drafted d (record { parts = qs; contents = cs; reply = reply.Hello d.next_id d.rules.size d.hashes; change = change.Arrives (plain_conn d.next_id seat creds size); after = who.Conn d.next_id seat }))
-hello_planned d creds size seat qs cs free e h =
-    let after : Desk = applied (change.Arrives (plain_conn d.next_id seat creds size)) d in
-    hello_free d creds size seat free
-    ∙ ap (λ (ps : List Part). Ok (arrived d creds size seat ps)) (append-nil (posts after (id_add d.next_id)) ∙ posts_with d d.next_id seat size creds)
-    ∙ ap Ok (drafted_alike d creds size seat qs cs e h)
+pub hello_planned : (d : Desk) (creds : Creds) (w : Wanted) (seat : ℕ) (qs : List code.Part) (cs : List (Option Content)) → free_seat d ≡ Some seat → cs ≡ [] → parts_with [] qs ≡ record { seat = seat; act = raise w.size } ∷ posts d (id_add d.next_id)
+    → hello d creds (asked_plainly w) ≡ Ok (drafted d (record { parts = qs; contents = cs; reply = reply.Hello d.next_id d.rules.size d.hashes; change = change.Arrives (plain_conn d.next_id seat creds w); after = who.Conn d.next_id seat }))
+hello_planned d creds w seat qs cs free e h =
+    let after : Desk = applied (change.Arrives (plain_conn d.next_id seat creds w)) d in
+    hello_free d creds w seat free
+    ∙ ap (λ (ps : List Part). Ok (arrived d creds w seat ps)) (append-nil (posts after (id_add d.next_id)) ∙ posts_with d d.next_id seat w creds)
+    ∙ ap Ok (drafted_alike d creds w seat qs cs e h)
 
 -- and its parts can be visited
-can_visit : (d : Desk) (size seat : ℕ) (qs : List code.Part) → AllByRecursion IsSeated d.conns → seat < 64 → size % 8 ≡ 0 → parts_with [] qs ≡ record { seat = seat; act = raise size } ∷ posts d (id_add d.next_id) → AllByRecursion CanBeVisited (parts_with [] qs)
-can_visit d size seat qs seats below eights h = rw h ((below, eights), posts_visits d (id_add d.next_id) seats)
+can_visit : (d : Desk) (w : Wanted) (seat : ℕ) (qs : List code.Part) → AllByRecursion IsSeated d.conns → seat < 64 → w.size % 8 ≡ 0 → parts_with [] qs ≡ record { seat = seat; act = raise w.size } ∷ posts d (id_add d.next_id) → AllByRecursion CanBeVisited (parts_with [] qs)
+can_visit d w seat qs seats below eights h = rw h ((below, eights), posts_visits d (id_add d.next_id) seats)
 
-pub hello_visits : (d : Desk) (size seat : ℕ) (qs : List code.Part) → AllByRecursion IsSeated d.conns → seat < 64 → size % 8 ≡ 0 → parts_with [] qs ≡ record { seat = seat; act = raise size } ∷ posts d (id_add d.next_id) → AllByRecursion IsVisitable qs
-hello_visits d size seat qs seats below eights h = visitable_of qs (can_visit d size seat qs seats below eights h)
+pub hello_visits : (d : Desk) (w : Wanted) (seat : ℕ) (qs : List code.Part) → AllByRecursion IsSeated d.conns → seat < 64 → w.size % 8 ≡ 0 → parts_with [] qs ≡ record { seat = seat; act = raise w.size } ∷ posts d (id_add d.next_id) → AllByRecursion IsVisitable qs
+hello_visits d w seat qs seats below eights h = visitable_of qs (can_visit d w seat qs seats below eights h)
 
 -- without contents
-pub hello_contents : (d : Desk) (size seat : ℕ) (qs : List code.Part) (cs : List (Option Content)) → cs ≡ [] → AllByRecursion IsSeated d.conns → seat < 64 → size % 8 ≡ 0 → parts_with [] qs ≡ record { seat = seat; act = raise size } ∷ posts d (id_add d.next_id) → StandByOffers cs qs
-hello_contents d size seat qs cs e seats below eights h = contentless cs qs e (can_visit d size seat qs seats below eights h)
+pub hello_contents : (d : Desk) (w : Wanted) (seat : ℕ) (qs : List code.Part) (cs : List (Option Content)) → cs ≡ [] → AllByRecursion IsSeated d.conns → seat < 64 → w.size % 8 ≡ 0 → parts_with [] qs ≡ record { seat = seat; act = raise w.size } ∷ posts d (id_add d.next_id) → StandByOffers cs qs
+hello_contents d w seat qs cs e seats below eights h = contentless cs qs e (can_visit d w seat qs seats below eights h)

@@ -50,11 +50,7 @@ a_whole_pool flags pool send receive is e h =
 no_flags : (flags : HelloFlags) (pool send receive : ℕ) (is : List WireItem) → IsTrue (is_planned (cmd.Hello flags pool send receive is)) → flags.0 ≡ 0
 unfolding is_planned
 no_flags flags pool send receive is h =
-    search (
-      rules,
-      left_true (flags.0 == 0) (send == 0) (left_true (flags.0 == 0 && send == 0) (receive == 0)
-          (left_true (flags.0 == 0 && send == 0 && receive == 0) (is_empty is) h)),
-    )
+    search (rules, left_true (flags.0 == 0) (is_empty is) h)
 
 -- the pool of an ordinary connection has whole words
 pub has_whole_pool :

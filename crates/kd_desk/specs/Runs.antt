@@ -35,11 +35,11 @@ is_plain _ = false
 abbrev pub is_plain_send : SendFlags → ℕ → List WireItem → Bool
 is_plain_send flags dst is = not (has_bits flags.0 1) && not (dst == any) && all_of is_plain is
 
--- ordinary connections on the default endpoint, without metadata; messages to one receiver, of
--- which no reply is expected; names, rules, the moment, and what is sealed
+-- ordinary connections on the default endpoint; messages to one receiver, of which no reply is
+-- expected; names, rules, the moment, and what is sealed
 unfoldable pub is_planned : Command → Bool
 is_planned (cmd.Hello flags size send_mask receive_mask is) =
-    flags.0 == 0 && send_mask == 0 && receive_mask == 0 && is_empty is
+    flags.0 == 0 && is_empty is
 is_planned (cmd.Send flags priority dst source payload_type cookie last is) =
     is_plain_send flags dst is
 is_planned cmd.Byebye = true

@@ -15,6 +15,17 @@ use kd_types::{ConnId, Creds, Kind, OwnerChange, Refusal, Seat};
 use kd_wire::Reply;
 use std::alloc::Global;
 
+/// What a caller wants that becomes an ordinary connection on the default endpoint.
+#[derive(Clone, Copy, Debug)]
+pub(crate) struct Wanted {
+    /// The size of its pool in bytes.
+    pub size: u32,
+    /// Which metadata may be attached to what it sends.
+    pub send_mask: u64,
+    /// Which metadata it wants attached to what it receives.
+    pub receive_mask: u64,
+}
+
 impl Desk {
     /// Whether nobody has the seat, and it doesn't wait for its own caller.
     fn is_free(&self, seat: Seat) -> bool
@@ -35,20 +46,20 @@ impl Desk {
         None
     }
 
-    /// A caller becomes an ordinary connection on the default endpoint, without metadata, with a
-    /// pool of so many bytes: on the lowest free seat, and the others are told. It is refused where
-    /// no seat is free. Where the desk had no room for one more connection, which can't come about,
+    /// A caller becomes an ordinary connection on the default endpoint, with the masks and the pool
+    /// that it wants: on the lowest free seat, and the others are told. It is refused where no seat
+    /// is free. Where the desk had no room for one more connection, which can't come about,
     /// memory is wanting. What a notice may borrow is named, though this one borrows none of it:
     /// the borrow checker asks for it.
     pub(crate) fn plan_hello(
         &self,
         alloc: Global,
         creds: &Creds,
-        size: u32,
+        wanted: Wanted,
     ) -> Result<Plan, Refusal>
-        requires eights { size % 8 ≡ 0 }
+        requires eights { wanted.size % 8 ≡ 0 }
         requires ids { self.now.next_id < 2 ^ 63 }
-        ensures { PlanResult self.now (hello self.now creds.now (asked_plainly size)) result }
+        ensures { PlanResult self.now (hello self.now creds.now (asked_plainly wanted)) result }
     {
         let _change: Option<&OwnerChange> = None;
         let Some(seat) = self.free_seat() else {
@@ -59,7 +70,10 @@ impl Desk {
         }
         let id = ConnId(self.next_id);
         let mut parts = Vec::new(alloc);
-        parts.push(Part::Raise { seat, size })?;
+        parts.push(Part::Raise {
+            seat,
+            size: wanted.size,
+        })?;
         self.tell(alloc, &mut parts, &News::Came(id), None)?;
         Ok(Plan {
             parts,
@@ -69,15 +83,15 @@ impl Desk {
                 size: u64::from(self.param.size),
                 hashes: u64::from(self.param.hashes),
             },
-            change: Change::Arrives(newcomer(id, seat, creds, size)),
+            change: Change::Arrives(newcomer(id, seat, creds, wanted)),
             after: WhoKind::Conn { id, seat },
         })
     }
 }
 
-/// An ordinary connection on the default endpoint, without metadata.
-fn newcomer(id: ConnId, seat: Seat, creds: &Creds, size: u32) -> Conn
-    ensures { result ≡ plain_conn id seat creds.now size }
+/// An ordinary connection on the default endpoint.
+fn newcomer(id: ConnId, seat: Seat, creds: &Creds, wanted: Wanted) -> Conn
+    ensures { result ≡ plain_conn id seat creds.now wanted }
 {
     Conn {
         id,
@@ -85,9 +99,9 @@ fn newcomer(id: ConnId, seat: Seat, creds: &Creds, size: u32) -> Conn
         creds: *creds,
         endpoint: 0,
         kind: Kind::Ordinary,
-        size,
-        send_mask: 0,
-        receive_mask: 0,
+        size: wanted.size,
+        send_mask: wanted.send_mask,
+        receive_mask: wanted.receive_mask,
         description: None,
     }
 }

@@ -15,6 +15,7 @@ ghost use Rattle.kd_commands.specs.declared.conn.Conn as conn;
 
 use crate::change::Change;
 use crate::desk::Desk;
+use crate::hello::Wanted;
 use crate::naming::has_activator;
 use crate::plan::Plan;
 use kd_commands::{Conn, Sent, Who, WhoKind};
@@ -51,23 +52,14 @@ fn are_plain(items: &[WireItem]) -> bool
     items.iter().all(|item| is_plain(item))
 }
 
-/// Whether the command is run so far: ordinary connections on the default endpoint, without
-/// metadata; messages to one receiver, of which no reply is expected; names, rules, the moment, and
-/// what is sealed.
+/// Whether the command is run so far: ordinary connections on the default endpoint; messages to one
+/// receiver, of which no reply is expected; names, rules, the moment, and what is sealed.
 #[tactic(auto, unfolding(crate::specs::Runs::is_planned))]
 fn runs(cmd: &Command) -> bool
     ensures { result ≡ is_planned cmd.now }
 {
     match cmd {
-        Command::Hello {
-            flags,
-            send_mask,
-            receive_mask,
-            items,
-            ..
-        } => {
-            flags.word() == 0 && *send_mask == 0 && *receive_mask == 0 && items.items().is_empty()
-        }
+        Command::Hello { flags, items, .. } => flags.word() == 0 && items.items().is_empty(),
         Command::Send {
             flags,
             dst,
@@ -204,7 +196,19 @@ impl Desk {
         ensures { PlanResult self.now (from_fresh self.now creds.now cmd) result }
     {
         match cmd {
-            Command::Hello { pool, .. } => self.plan_hello(alloc, creds, pool),
+            Command::Hello {
+                pool,
+                send_mask,
+                receive_mask,
+                ..
+            } => {
+                let wanted = Wanted {
+                    size: pool,
+                    send_mask,
+                    receive_mask,
+                };
+                self.plan_hello(alloc, creds, wanted)
+            }
             Command::Enter { .. } => Ok(quiet(
                 alloc,
                 Reply::Enter,
