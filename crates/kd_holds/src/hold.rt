@@ -172,7 +172,6 @@ impl Hold {
     /// is closed, or has another generation, or where that slice isn't there any more.
     #[tactic(auto, unfolding(kd_acts::specs::Steps::pool_step, kd_acts::specs::Steps::open_step, kd_acts::specs::Steps::closed_answer))]
     pub fn publish(&mut self, pending: Pending) -> Published
-        requires plain { pending.content.shared ≡ None }
         requires counts { IsBelow (2 ^ 63 - 1) self.old }
         ensures after { self.new
             ≡ after self.old (publish pending.generation pending.number pending.content) }
@@ -184,7 +183,7 @@ impl Hold {
         }
         match &mut self.pool {
             None => Published::Gone,
-            Some(pool) => opened::publish(pool, pending.number, &pending.content),
+            Some(pool) => opened::publish(pool, pending.number, pending.content),
         }
     }
 

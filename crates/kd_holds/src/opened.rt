@@ -1,6 +1,6 @@
 //! What is done to an open pool.
 
-ghost use Rattle.std.specs.Prelude.{◌≡◌, ◌-◌, ◌^◌, None, length};
+ghost use Rattle.std.specs.Prelude.{◌≡◌, ◌-◌, ◌^◌, length};
 ghost use Rattle.kd_acts.specs.Steps.{offer_step, post_step, without_handed};
 ghost use Rattle.kd_desk.specs.Drafts.{IsLength};
 ghost use Rattle.kd_desk.specs.Outs.{out_answer};
@@ -46,19 +46,19 @@ pub(crate) fn post(pool: &mut Pool, image: &[u8]) -> Out
 }
 
 /// Writes a message into the slice of a number, where that is reserved for just as many bytes, and
-/// queues it.
-pub(crate) fn publish(pool: &mut Pool, number: SliceNo, content: &Content) -> Published
-    requires plain { content.now.shared ≡ None }
+/// queues it. The slice holds the share of sealed bytes that the message takes along.
+pub(crate) fn publish(pool: &mut Pool, number: SliceNo, content: Content) -> Published
     requires counts { IsPoolBelow (2 ^ 63 - 1) pool.old }
-    ensures after { pool.new ≡ (publish_step number content.now pool.old).0 }
+    ensures after { pool.new ≡ (publish_step number content pool.old).0 }
     ensures answer { publishing.publish_answer result
-        ≡ (publish_step number content.now pool.old).1 }
+        ≡ (publish_step number content pool.old).1 }
 {
+    let shared = content.shared;
     let prefix = content.prefix.bytes();
     let payload = content.payload.as_slice();
     match pool.reserved(number) {
         Some(len) if len as usize == prefix.len() + payload.len() => {
-            pool.publish(number, prefix, payload, content.priority);
+            pool.publish(number, prefix, payload, shared, content.priority);
             Published::Placed
         }
         _ => Published::Gone,
