@@ -10,6 +10,7 @@ pub mod Marks
 pub mod NamePlans
 pub mod Listed
 pub mod Offering
+pub mod Said
 pub mod Sorted
 pub mod Planned
 pub mod Quiet

@@ -1,6 +1,9 @@
 -- Offers: their parts, the seats of their receivers, and their lengths.
-use Rattle.std.proofs.Common.{◌≡◌, ℕ, ◌%◌, ◌<◌, suc, zero, Bool, true, false, is_some, sym, map, List, [], ◌∷◌, ◌++◌, length, get_or, Option, Some, None, refl, ap, arith, length-append}
+use Rattle.std.proofs.Common.{◌≡◌, ℕ, ◌%◌, ◌<◌, suc, zero, Bool, true, false, is_some, sym, map, List, [], ◌∷◌, ◌++◌, length, get_or, Option, Some, None, cond, ◌+◌, take, refl, ap, ◌∙◌, arith, length-append}
 use Rattle.std.specs.List.{AllByRecursion}
+use Rattle.std.proofs.lemmas.List.{append_assoc, map-append, take_more}
+use Rattle.std.proofs.lemmas.List.Elements.{filter-append}
+use Rattle.kd_model.specs.Words.{those}
 use Rattle.kd_item.proofs.Sizes.{spellings_even}
 use Rattle.kd_image.specs.declared.message.Message.{Message}
 use Rattle.kd_image.specs.declared.attached.Attached.{Attached}
@@ -13,7 +16,8 @@ use Rattle.kd_desk.specs.declared.part.Part as code
 use Rattle.kd_desk.specs.declared.part.Part.TheVariants as part
 use Rattle.kd_desk.specs.Drafts.{parts_with, part_with, IsLength, IsVisitable, StandByOffers, content_at, is_offer}
 use Rattle.kd_commands.specs.Messages.{attached}
-use Rattle.kd_desk.specs.Sending.{plain_offer}
+use Rattle.kd_desk.specs.Sending.{plain_offer, when_told}
+use Rattle.kd_commands.specs.Plans.{Part}
 use Rattle.kd_commands.specs.State.{Desk}
 use Rattle.kd_desk.specs.Room.{IsSeated}
 
@@ -69,3 +73,19 @@ pub offered_is : (d : Desk) (s : Conn) (g : Message) (dst : ℕ) (must : Bool) (
     → part_with (Some content) (part.Offer r.seat s.creds.uid len s.id must) ≡ plain_offer d s g dst must r
 unfolding plain_offer image
 offered_is d s g dst must r a len payload content a_is len_is content_is payload_is = rw (len_is, content_is, payload_is, a_is) refl
+
+told_one : (f : Conn → Part) (x : Conn) (b : Bool) → when_told b (f x) ≡ map f (cond b (x ∷ []) [])
+told_one f x true = refl
+told_one f x false = refl
+
+-- one connection more of those that are gone through
+pub walked : (f : Conn → Part) (p : Conn → Bool) (cs : List Conn) (i : ℕ) (x : Conn) (front so_far then : List Part) → i < length cs → x ≡ get_or cs i x → so_far ≡ front ++ map f (those p (take i cs))
+    → then ≡ so_far ++ when_told (p x) (f x) → then ≡ front ++ map f (those p (take (i + 1) cs))
+walked f p cs i x front so_far then lt here is more =
+    let one : List Part = map f (those p (x ∷ [])) in
+    let longer : take (i + 1) cs ≡ take i cs ++ x ∷ [] = take_more cs i x lt ∙ ap (λ (y : Conn). take i cs ++ y ∷ []) (sym here) in
+    more
+    ∙ ap (λ (l : List Part). so_far ++ l) (told_one f x (p x))
+    ∙ ap (λ (l : List Part). l ++ one) is
+    ∙ append_assoc front (map f (those p (take i cs))) one
+    ∙ ap (λ (l : List Part). front ++ l) (sym (map-append f (those p (take i cs)) (those p (x ∷ []))) ∙ ap (map f) (sym (filter-append p (take i cs) (x ∷ []))) ∙ ap (λ (l : List Conn). map f (those p l)) (sym longer))

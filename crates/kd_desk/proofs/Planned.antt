@@ -1,25 +1,26 @@
--- What a plain message comes to.
-use Rattle.std.proofs.Common.{◌≡◌, ◌≢◌, ◌==◌, ℕ, ℤ, Bool, true, false, not, ◌&&◌, is_some, is_none, List, [], ◌∷◌, ◌++◌, map, Some, None, Result, Ok, Err, IsErr, IsErrAnd, nat_lt, refl, sym, ap, ◌∙◌}
+-- What a message without sealed bytes comes to.
+use Rattle.std.proofs.Common.{◌≡◌, ◌≢◌, ◌==◌, ℕ, Bool, true, false, not, ◌&&◌, is_some, List, [], ◌∷◌, ◌++◌, length, map, Option, Some, None, Result, Ok, Err, IsErr, IsErrAnd, nat_lt, refl, sym, ap, ◌∙◌}
 use Rattle.std.specs.List.{AllByRecursion}
 use Rattle.kd_types.specs.declared.refusal.Refusal.{Refusal}
 use Rattle.kd_types.specs.declared.refusal.Refusal.TheVariants as why
-use Rattle.kd_model.specs.Words.{all_of, first_that_holds}
-use Rattle.kd_types.specs.Flags.{has_bits}
+use Rattle.kd_model.specs.Words.{first_that_holds, some_of}
+use Rattle.kd_model.proofs.Truth.{left_false, not_false}
+use Rattle.kd_replies.specs.declared.request.Request.{Request}
+use Rattle.kd_replies.specs.Requests.{waits_for}
 use Rattle.kd_wire.specs.declared.reply.Reply.TheVariants as reply
 use Rattle.kd_commands.specs.declared.conn.Conn.{Conn}
 use Rattle.kd_commands.specs.declared.sent.Sent.{Sent}
 use Rattle.kd_commands.specs.State.{Desk, monitors}
 use Rattle.kd_image.specs.Images.{any}
-use Rattle.kd_commands.specs.Items.{destination_name, sealed_among}
-use Rattle.kd_commands.specs.Send.{has_bad_cookie, is_misuse, fits_filters, refusals_by, is_reply, offered_to, receiver, refusals_of_unicast, requests_after, send_parts, send_refusals, send}
-use Rattle.kd_commands.specs.Messages.{is_broadcast, share_in, message_of, plain_length}
+use Rattle.kd_commands.specs.Items.{Filter, destination_name, filter_among}
+use Rattle.kd_commands.specs.Audience.{audience, broadcast}
+use Rattle.kd_commands.specs.Send.{asker_of, fits_filters, has_bad_cookie, is_misuse, is_reply, offered_to, receiver, refusals_by, refusals_of_unicast, requests_after, send_parts, send_refusals, send, some_passes}
+use Rattle.kd_commands.specs.Messages.{expects, is_broadcast, message_of, plain_length}
 use Rattle.kd_commands.specs.Plans.{Plan, itself, unless}
+use Rattle.kd_desk.specs.declared.change.Change.{Change}
+use Rattle.kd_desk.specs.declared.change.Change.TheVariants as change
 use Rattle.kd_desk.specs.Drafts.{PlanResult, Draft, Fits, IsVisitable, StandByOffers, applied, drafted, parts_with}
-use Rattle.kd_desk.specs.Sending.{change_of, IsPlain, Judges, plain_offer}
-use Rattle.kd_types.specs.declared.flags.SendFlags.{SendFlags}
-use Rattle.kd_wire.specs.declared.item.WireItem.{WireItem}
-use Rattle.kd_wire.specs.declared.command.Command.TheVariants as cmd
-use Rattle.kd_desk.specs.Runs.{is_plain, is_planned}
+use Rattle.kd_desk.specs.Sending.{change_of, AreUnsealed, Judges, plain_offer, refusals_of_bytes, refusals_of_form, refusals_of_way}
 use Rattle.kd_desk.proofs.Sorted.{no_seal}
 
 never : {X : Type 0} → false ≡ true → X
@@ -31,20 +32,15 @@ first_holds [] us x e = absurd cc
 first_holds ((true, y) ∷ ts) us x e = e
 first_holds ((false, y) ∷ ts) us x e = first_holds ts us x e
 
-plain_front : (d : Desk) (s : Conn) (m : Sent) (us : List (Bool × Refusal)) → IsPlain m
-    → (has_bad_cookie d s m, why.BadCookie) ∷ (is_misuse m, why.BroadcastMisuse) ∷ (is_broadcast m && not (fits_filters d m), why.BloomSize) ∷ (nat_lt 65536 (plain_length m), why.TooLong) ∷ (is_some (sealed_among m.items) && is_none (share_in d s m), why.NoSuchSeal) ∷ elim (is_broadcast m) [ true ↦ [] | false ↦ us ]
-    ≡ (false, why.BadCookie) ∷ (has_bits m.flags.0 4, why.BroadcastMisuse) ∷ (false, why.BloomSize) ∷ (nat_lt 65536 (plain_length m), why.TooLong) ∷ (false, why.NoSuchSeal) ∷ us
-plain_front d s m us p = rw (p.quiet, is_misuse, p.one, no_seal 0 m.items p.items) refl
+first_passes : {X : Type 0} (ts us : List (Bool × X)) → first_that_holds ts ≡ None → first_that_holds (ts ++ us) ≡ first_that_holds us
+first_passes [] us e = refl
+first_passes ((true, y) ∷ ts) us e = absurd cc
+first_passes ((false, y) ∷ ts) us e = first_passes ts us e
 
--- the refusals of a plain message
-plain_refusals : (d : Desk) (s : Conn) (m : Sent) → IsPlain m
-    → send_refusals d s m ≡ (false, why.BadCookie) ∷ (has_bits m.flags.0 4, why.BroadcastMisuse) ∷ (false, why.BloomSize) ∷ (nat_lt 65536 (plain_length m), why.TooLong) ∷ (false, why.NoSuchSeal) ∷ refusals_of_unicast d s m
+-- the refusals of a message, group by group
+refusals_are : (d : Desk) (s : Conn) (m : Sent) → send_refusals d s m ≡ refusals_of_form d s m ++ (refusals_of_bytes d s m ++ refusals_of_way d s m)
 unfolding send_refusals
-plain_refusals d s m p = plain_front d s m (refusals_of_unicast d s m) p
-
-passed : (signal long : Bool) (us : List (Bool × Refusal)) → signal ≡ false → long ≡ false
-    → first_that_holds ((false, why.BadCookie) ∷ (signal, why.BroadcastMisuse) ∷ (false, why.BloomSize) ∷ (long, why.TooLong) ∷ (false, why.NoSuchSeal) ∷ us) ≡ first_that_holds us
-passed signal long us a b = rw (a, b) refl
+refusals_are d s m = refl
 
 unless_refused : (ts : List (Bool × Refusal)) (p : Plan) (e : Refusal) → first_that_holds ts ≡ Some e → unless ts p ≡ Err e
 unless_refused ts p e judged = rw (unless, judged) refl
@@ -52,63 +48,145 @@ unless_refused ts p e judged = rw (unless, judged) refl
 unless_fine : (ts : List (Bool × Refusal)) (p : Plan) → first_that_holds ts ≡ None → unless ts p ≡ Ok p
 unless_fine ts p judged = rw (unless, judged) refl
 
-pub misused : (d : Desk) (s : Conn) (m : Sent) → IsPlain m → has_bits m.flags.0 4 ≡ true → send d s m ≡ Err why.BroadcastMisuse
+pub form_refuses : (d : Desk) (s : Conn) (m : Sent) (e : Refusal) → first_that_holds (refusals_of_form d s m) ≡ Some e → send d s m ≡ Err e
 unfolding send
-misused d s m p signal = rw (plain_refusals d s m p, signal) refl
+form_refuses d s m e judged = unless_refused (send_refusals d s m) _ e (ap first_that_holds (refusals_are d s m) ∙ first_holds (refusals_of_form d s m) (refusals_of_bytes d s m ++ refusals_of_way d s m) e judged)
 
-pub too_long : (d : Desk) (s : Conn) (m : Sent) → IsPlain m → has_bits m.flags.0 4 ≡ false → nat_lt 65536 (plain_length m) ≡ true → send d s m ≡ Err why.TooLong
+long_holds : (d : Desk) (s : Conn) (m : Sent) → nat_lt 65536 (plain_length m) ≡ true → first_that_holds (refusals_of_bytes d s m) ≡ Some why.TooLong
+long_holds d s m long = rw long refl
+
+pub too_long : (d : Desk) (s : Conn) (m : Sent) → first_that_holds (refusals_of_form d s m) ≡ None → nat_lt 65536 (plain_length m) ≡ true → send d s m ≡ Err why.TooLong
 unfolding send
-too_long d s m p signal long = rw (plain_refusals d s m p, signal, long) refl
+too_long d s m form long = unless_refused (send_refusals d s m) _ why.TooLong (
+    ap first_that_holds (refusals_are d s m)
+    ∙ first_passes (refusals_of_form d s m) (refusals_of_bytes d s m ++ refusals_of_way d s m) form
+    ∙ first_holds (refusals_of_bytes d s m) (refusals_of_way d s m) why.TooLong (long_holds d s m long)
+    )
 
--- what is neither a signal nor too long is judged by where it goes
-judged_by_way : (d : Desk) (s : Conn) (m : Sent) → IsPlain m → has_bits m.flags.0 4 ≡ false → nat_lt 65536 (plain_length m) ≡ false → first_that_holds (send_refusals d s m) ≡ first_that_holds (refusals_of_unicast d s m)
-judged_by_way d s m p signal long = ap first_that_holds (plain_refusals d s m p) ∙ passed (has_bits m.flags.0 4) (nat_lt 65536 (plain_length m)) (refusals_of_unicast d s m) signal long
+bytes_pass : (d : Desk) (s : Conn) (m : Sent) → nat_lt 65536 (plain_length m) ≡ false → AreUnsealed m.items → first_that_holds (refusals_of_bytes d s m) ≡ None
+bytes_pass d s m long u = rw (long, no_seal 0 m.items u) refl
 
-pub refused : (d : Desk) (s : Conn) (m : Sent) (e : Refusal) → IsPlain m → has_bits m.flags.0 4 ≡ false → nat_lt 65536 (plain_length m) ≡ false → first_that_holds (refusals_of_unicast d s m) ≡ Some e → send d s m ≡ Err e
+-- what passes so far is judged by whom it is for
+judged_by_way : (d : Desk) (s : Conn) (m : Sent) → first_that_holds (refusals_of_form d s m) ≡ None → nat_lt 65536 (plain_length m) ≡ false → AreUnsealed m.items → first_that_holds (send_refusals d s m) ≡ first_that_holds (refusals_of_way d s m)
+judged_by_way d s m form long u =
+    ap first_that_holds (refusals_are d s m)
+    ∙ first_passes (refusals_of_form d s m) (refusals_of_bytes d s m ++ refusals_of_way d s m) form
+    ∙ first_passes (refusals_of_bytes d s m) (refusals_of_way d s m) (bytes_pass d s m long u)
+
+to_one : (d : Desk) (s : Conn) (m : Sent) → is_broadcast m ≡ false → refusals_of_way d s m ≡ refusals_of_unicast d s m
+to_one d s m one = rw (refusals_of_way, one) refl
+
+to_all : (d : Desk) (s : Conn) (m : Sent) → is_broadcast m ≡ true → refusals_of_way d s m ≡ []
+to_all d s m all = rw (refusals_of_way, all) refl
+
+pub refused : (d : Desk) (s : Conn) (m : Sent) (e : Refusal) → first_that_holds (refusals_of_form d s m) ≡ None → nat_lt 65536 (plain_length m) ≡ false → AreUnsealed m.items → is_broadcast m ≡ false → first_that_holds (refusals_of_unicast d s m) ≡ Some e → send d s m ≡ Err e
 unfolding send
-refused d s m e p signal long judged = unless_refused (send_refusals d s m) _ e (judged_by_way d s m p signal long ∙ judged)
+refused d s m e form long u one judged = unless_refused (send_refusals d s m) _ e (judged_by_way d s m form long u ∙ ap first_that_holds (to_one d s m one) ∙ judged)
 
-requests_are : (d : Desk) (s : Conn) (m : Sent) (b : Bool) → IsPlain m → is_reply d s m ≡ b → record d { requests = requests_after d s m } ≡ applied (change_of d m b) d
-unfolding requests_after applied
-requests_are d s m true p e = rw (requests_after, p.quiet, e) refl
-requests_are d s m false p e = rw (requests_after, p.quiet, e) refl
+sent : (d : Desk) (s : Conn) (m : Sent) → first_that_holds (send_refusals d s m) ≡ None
+    → send d s m ≡ Ok (record { parts = send_parts d s m; reply = reply.Send; next = record d { requests = requests_after d s m }; becomes = itself s })
+unfolding send
+sent d s m judged = unless_fine (send_refusals d s m) _ judged
 
-offered_same : (d : Desk) (s : Conn) (m : Sent) (dst : ℕ) (must : Bool) (r : Conn) → IsPlain m → offered_to d s m dst must r ≡ plain_offer d s (message_of m) dst must r
+offered_same : (d : Desk) (s : Conn) (m : Sent) (dst : ℕ) (must : Bool) (r : Conn) → AreUnsealed m.items → offered_to d s m dst must r ≡ plain_offer d s (message_of m) dst must r
 unfolding plain_offer
-offered_same d s m dst must r p = rw (no_seal 0 m.items p.items) refl
+offered_same d s m dst must r u = rw (no_seal 0 m.items u) refl
 
-offers_are : (d : Desk) (s : Conn) (m : Sent) (dst : ℕ) (must : Bool) (rs : List Conn) → IsPlain m → map (offered_to d s m dst must) rs ≡ map (plain_offer d s (message_of m) dst must) rs
-offers_are d s m dst must [] p = refl
-offers_are d s m dst must (r ∷ rs) p = rw (offered_same d s m dst must r p, offers_are d s m dst must rs p) refl
+offers_are : (d : Desk) (s : Conn) (m : Sent) (dst : ℕ) (must : Bool) (rs : List Conn) → AreUnsealed m.items → map (offered_to d s m dst must) rs ≡ map (plain_offer d s (message_of m) dst must) rs
+offers_are d s m dst must [] u = refl
+offers_are d s m dst must (r ∷ rs) u = rw (offered_same d s m dst must r u, offers_are d s m dst must rs u) refl
 
--- the parts of a plain message that reaches somebody
-parts_are : (d : Desk) (s : Conn) (m : Sent) (r : Conn) → IsPlain m → receiver d m ≡ Some r
+-- a plan of the code that has the parts, and changes the requests so
+same_plan : (d : Desk) (s : Conn) (m : Sent) (p : Draft) → send_parts d s m ≡ parts_with p.contents p.parts → record d { requests = requests_after d s m } ≡ applied p.change d → p.reply ≡ reply.Send → p.after ≡ itself s
+    → record { parts = send_parts d s m; reply = reply.Send; next = record d { requests = requests_after d s m }; becomes = itself s } ≡ drafted d p
+unfolding drafted
+same_plan d s m p parts next says after = rw (parts, next, says, after) refl
+
+-- ---- to one receiver
+
+requests_are : (d : Desk) (s : Conn) (m : Sent) (b : Bool) → expects m ≡ false → is_reply d s m ≡ b → record d { requests = requests_after d s m } ≡ applied (change_of d m b) d
+unfolding requests_after applied
+requests_are d s m true quiet e = rw (requests_after, quiet, e) refl
+requests_are d s m false quiet e = rw (requests_after, quiet, e) refl
+
+parts_are : (d : Desk) (s : Conn) (m : Sent) (r : Conn) → AreUnsealed m.items → is_broadcast m ≡ false → receiver d m ≡ Some r
     → send_parts d s m ≡ plain_offer d s (message_of m) r.id true r ∷ map (plain_offer d s (message_of m) r.id false) (monitors d)
 unfolding send_parts
-parts_are d s m r p reached = rw (send_parts, p.one, reached, offered_same d s m r.id true r p, offers_are d s m r.id false (monitors d) p) refl
+parts_are d s m r u one reached = rw (send_parts, one, reached, offered_same d s m r.id true r u, offers_are d s m r.id false (monitors d) u) refl
 
 fits : (d : Desk) (m : Sent) (b : Bool) → Fits d (change_of d m b)
 unfolding Fits
 fits d m true = tt
 fits d m false = tt
 
-sent : (d : Desk) (s : Conn) (m : Sent) → IsPlain m → has_bits m.flags.0 4 ≡ false → nat_lt 65536 (plain_length m) ≡ false → first_that_holds (refusals_of_unicast d s m) ≡ None
-    → send d s m ≡ Ok (record { parts = send_parts d s m; reply = reply.Send; next = record d { requests = requests_after d s m }; becomes = itself s })
-unfolding send
-sent d s m p signal long judged = unless_fine (send_refusals d s m) _ (judged_by_way d s m p signal long ∙ judged)
-
--- the plan of a plain message
-pub planned : (d : Desk) (s : Conn) (m : Sent) (r : Conn) (b : Bool) (p : Draft) → IsPlain m → has_bits m.flags.0 4 ≡ false → nat_lt 65536 (plain_length m) ≡ false
+pub planned : (d : Desk) (s : Conn) (m : Sent) (r : Conn) (b : Bool) (p : Draft) → AreUnsealed m.items → expects m ≡ false → is_broadcast m ≡ false → first_that_holds (refusals_of_form d s m) ≡ None → nat_lt 65536 (plain_length m) ≡ false
     → first_that_holds (refusals_of_unicast d s m) ≡ None → receiver d m ≡ Some r → is_reply d s m ≡ b
     → parts_with p.contents p.parts ≡ plain_offer d s (message_of m) r.id true r ∷ map (plain_offer d s (message_of m) r.id false) (monitors d)
     → AllByRecursion IsVisitable p.parts → StandByOffers p.contents p.parts → p.reply ≡ reply.Send → p.change ≡ change_of d m b → p.after ≡ itself s → PlanResult d (send d s m) (Ok p)
-unfolding drafted
-planned d s m r b p plain signal long judged reached replies parts visitable contents says change after = (
-  sent d s m plain signal long judged ∙ rw (parts_are d s m r plain reached, requests_are d s m b plain replies, parts, says, change, after) refl,
+planned d s m r b p u quiet one form long judged reached replies parts visitable contents says change after = (
+  sent d s m (judged_by_way d s m form long u ∙ ap first_that_holds (to_one d s m one) ∙ judged)
+      ∙ ap Ok (same_plan d s m p (parts_are d s m r u one reached ∙ sym parts) (requests_are d s m b quiet replies ∙ ap (λ (c : Change). applied c d) (sym change)) says after),
   rw change (fits d m b),
   visitable,
   contents,
 )
+
+-- ---- to all
+
+three_pass : {X : Type 0} (a b c : Bool) (x y z : X) → first_that_holds ((a, x) ∷ (b, y) ∷ (c, z) ∷ []) ≡ None → (b ≡ false) × (c ≡ false)
+three_pass true b c x y z e = absurd cc
+three_pass false true c x y z e = absurd cc
+three_pass false false true x y z e = absurd cc
+three_pass false false false x y z e = (refl, refl)
+
+unexpecting : (d : Desk) (s : Conn) (m : Sent) → is_broadcast m ≡ true → is_misuse m ≡ false → expects m ≡ false
+unexpecting d s m all fine = left_false (expects m) (is_some (destination_name m.items)) (sym (rw (is_misuse, all) refl) ∙ fine)
+
+-- a broadcast that passes has a filter of the bus's size
+pub fitting : (d : Desk) (s : Conn) (m : Sent) → is_broadcast m ≡ true → first_that_holds (refusals_of_form d s m) ≡ None → fits_filters d m ≡ true
+fitting d s m all form = not_false (fits_filters d m) (sym (rw all refl) ∙ (three_pass (has_bad_cookie d s m) (is_misuse m) (is_broadcast m && not (fits_filters d m)) why.BadCookie why.BroadcastMisuse why.BloomSize form).1)
+
+pub filterless : (d : Desk) (s : Conn) (m : Sent) → is_broadcast m ≡ true → first_that_holds (refusals_of_form d s m) ≡ None → filter_among m.items ≡ None → ⊥
+filterless d s m all form none = never (sym (ap (some_passes (λ (f : Filter). length f.bits == d.rules.size)) none) ∙ fitting d s m all form)
+
+pub filter_size : (d : Desk) (s : Conn) (m : Sent) (f : Filter) → is_broadcast m ≡ true → first_that_holds (refusals_of_form d s m) ≡ None → filter_among m.items ≡ Some f → (length f.bits == d.rules.size) ≡ true
+filter_size d s m f all form some = sym (ap (some_passes (λ (f : Filter). length f.bits == d.rules.size)) some) ∙ fitting d s m all form
+
+silent : (a b c e : Bool) → b ≡ true → (not a && not b && c && e) ≡ false
+silent true b c e all = refl
+silent false true c e all = refl
+silent false false c e all = absurd cc
+
+no_reply : (d : Desk) (s : Conn) (m : Sent) → is_broadcast m ≡ true → is_reply d s m ≡ false
+unfolding is_reply
+no_reply d s m all = silent (expects m) (is_broadcast m) (not (m.last == 0)) (some_of (waits_for (asker_of d m) s.id m.last) d.requests) all
+
+requests_stay : (d : Desk) (s : Conn) (m : Sent) → is_broadcast m ≡ true → expects m ≡ false → requests_after d s m ≡ d.requests
+unfolding requests_after
+requests_stay d s m all quiet = rw (requests_after, quiet, no_reply d s m all) refl
+
+nothing_changes : (d : Desk) (qs : List Request) → qs ≡ d.requests → record d { requests = qs } ≡ applied change.Nothing d
+unfolding applied
+nothing_changes d qs e = rw e refl
+
+broadcast_parts_are : (d : Desk) (s : Conn) (m : Sent) (f : Filter) → AreUnsealed m.items → is_broadcast m ≡ true → filter_among m.items ≡ Some f
+    → send_parts d s m ≡ map (plain_offer d s (message_of m) any false) (audience d (broadcast s f))
+unfolding send_parts
+broadcast_parts_are d s m f u all some = rw (send_parts, all, some, offers_are d s m any false (audience d (broadcast s f)) u) refl
+
+pub broadcast_planned : (d : Desk) (s : Conn) (m : Sent) (f : Filter) (p : Draft) → AreUnsealed m.items → is_broadcast m ≡ true → first_that_holds (refusals_of_form d s m) ≡ None → nat_lt 65536 (plain_length m) ≡ false → filter_among m.items ≡ Some f
+    → parts_with p.contents p.parts ≡ map (plain_offer d s (message_of m) any false) (audience d (broadcast s f))
+    → AllByRecursion IsVisitable p.parts → StandByOffers p.contents p.parts → p.reply ≡ reply.Send → p.change ≡ change.Nothing → p.after ≡ itself s → PlanResult d (send d s m) (Ok p)
+unfolding Fits
+broadcast_planned d s m f p u all form long some parts visitable contents says stays after =
+    let fine = (three_pass (has_bad_cookie d s m) (is_misuse m) (is_broadcast m && not (fits_filters d m)) why.BadCookie why.BroadcastMisuse why.BloomSize form).0 in
+    let stay : record d { requests = requests_after d s m } ≡ applied change.Nothing d = nothing_changes d (requests_after d s m) (requests_stay d s m all (unexpecting d s m all fine)) in (
+      sent d s m (judged_by_way d s m form long u ∙ ap first_that_holds (to_all d s m all))
+          ∙ ap Ok (same_plan d s m p (broadcast_parts_are d s m f u all some ∙ sym parts) (stay ∙ ap (λ (c : Change). applied c d) (sym stays)) says after),
+      rw stays tt,
+      visitable,
+      contents,
+    )
 
 -- a refusal that is handed on
 pub passed_on : {X : Type 0} (ts us : List (Bool × Refusal)) (e : Refusal) (r : Result X Refusal) → IsErr r × IsErrAnd r (λ y. y ≡ e) → (e ≢ why.OutOfMemory → first_that_holds ts ≡ Some e) → Judges (ts ++ us) r
@@ -127,16 +205,3 @@ refuses d wanted e told = told (λ same. absurd cc)
 pub refuses_on : (d : Desk) (wanted : Result Plan Refusal) (e : Refusal) (r : Result Draft Refusal) → IsErr r × IsErrAnd r (λ y. y ≡ e) → (e ≢ why.OutOfMemory → wanted ≡ Err e) → PlanResult d wanted r
 refuses_on d wanted e (Ok x) is told = never is.0
 refuses_on d wanted e (Err y) is told = refuses d wanted y (λ memory. rw is.1 (told (rw (sym is.1) memory)))
-
-three : (a b c : Bool) → (not a && not b && c) ≡ true → (a ≡ false) × (b ≡ false) × (c ≡ true)
-three true b c h = absurd cc
-three false true c h = absurd cc
-three false false c h = (refl, refl, h)
-
--- what is run of messages is plain
-pub runs_plain : (flags : SendFlags) (priority : ℤ) (dst source payload_type cookie last : ℕ) (is : List WireItem) → is_planned (cmd.Send flags priority dst source payload_type cookie last is) ≡ true
-    → IsPlain (record { flags = flags; priority = priority; dst = dst; payload_type = payload_type; cookie = cookie; last = last; items = is })
-unfolding is_planned
-runs_plain flags priority dst source payload_type cookie last is h =
-    let all = three (has_bits flags.0 1) (dst == any) (all_of is_plain is) h in
-    record { quiet = all.0; one = all.1; items = all.2 }

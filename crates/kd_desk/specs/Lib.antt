@@ -20,5 +20,5 @@ pub mod Owners
 pub mod Asking
 -- steps: the lines of a listing
 pub mod Listing
--- steps: messages to one receiver
+-- steps: messages
 pub mod Sending

@@ -24,24 +24,22 @@ use Rattle.kd_commands.specs.Names.{activator_in, acquire_refusals, name_acquire
 use Rattle.kd_commands.specs.Plans.{Plan}
 use Rattle.kd_commands.specs.Step.{plan, from_conn}
 
--- a payload, or the name that a message is sent to
-abbrev pub is_plain : WireItem → Bool
-is_plain (item.Payload bytes) = true
-is_plain (item.DstName n) = true
-is_plain _ = false
+-- not a range of sealed bytes
+abbrev pub is_unsealed : WireItem → Bool
+is_unsealed (item.Sealed number start len) = false
+is_unsealed _ = true
 
--- it goes to one receiver, expects no reply, and has nothing but payloads and the name that it is
--- sent to
-abbrev pub is_plain_send : SendFlags → ℕ → List WireItem → Bool
-is_plain_send flags dst is = not (has_bits flags.0 1) && not (dst == any) && all_of is_plain is
+-- it has no sealed bytes, and expects no reply where it is for one receiver
+abbrev pub is_run_send : SendFlags → ℕ → List WireItem → Bool
+is_run_send flags dst is = (dst == any || not (has_bits flags.0 1)) && all_of is_unsealed is
 
--- ordinary connections on the default endpoint; messages to one receiver, of which no reply is
+-- ordinary connections on the default endpoint; messages without sealed bytes, of which no reply is
 -- expected; names, rules, the moment, and what is sealed
 unfoldable pub is_planned : Command → Bool
 is_planned (cmd.Hello flags size send_mask receive_mask is) =
     flags.0 == 0 && is_empty is
 is_planned (cmd.Send flags priority dst source payload_type cookie last is) =
-    is_plain_send flags dst is
+    is_run_send flags dst is
 is_planned cmd.Byebye = true
 is_planned cmd.Close = true
 is_planned (cmd.NameAcquire flags n) = true

@@ -1,10 +1,8 @@
 //! What a receiver is told of a sender.
 
 ghost use Rattle.std.specs.Prelude.{◌≡◌, IfOk};
-ghost use Rattle.kd_model.specs.Words.{those};
-ghost use Rattle.kd_registry.specs.Changes.{names_of};
-ghost use Rattle.kd_commands.specs.Rights.{may_see_name};
 ghost use Rattle.kd_commands.specs.Messages.{attached, is_attached, when};
+ghost use Rattle.kd_desk.specs.Sending.{TellsNames, names_attached};
 
 use crate::desk::Desk;
 use kd_commands::Conn;
@@ -47,21 +45,43 @@ fn description_for(
 }
 
 impl Desk {
-    /// The names of the sender that the receiver may see.
+    /// The names that the sender lets the bus attach.
+    pub(crate) fn names_to_tell(
+        &self,
+        alloc: Global,
+        sender: &Conn,
+    ) -> Result<Vec<Text>, AllocError>
+        ensures { IfOk result (λ names. TellsNames self.now sender.now names.items) }
+    {
+        if sender.send_mask & NAMES == NAMES {
+            self.registry.names_of(alloc, sender.id)
+        } else {
+            Ok(Vec::new(alloc))
+        }
+    }
+
+    /// The names that are attached: those that the receiver may see.
     fn names_for(
         &self,
         alloc: Global,
         sender: &Conn,
+        names: &[Text],
         receiver: &Conn,
     ) -> Result<Vec<Text>, AllocError>
-        ensures { IfOk result (λ names.
-            names.items
-            ≡ those (may_see_name self.now receiver.now)
-            (names_of self.now.registry sender.now.id)) }
+        requires names { TellsNames self.now sender.now names.now }
+        ensures { IfOk result
+            (λ seen. seen.items ≡ names_attached self.now sender.now receiver.now) }
     {
-        let mut names = self.registry.names_of(alloc, sender.id)?;
-        names.retain(|name| self.may_see_name(receiver, name));
-        Ok(names)
+        let mut seen = Vec::new(alloc);
+        if !is_attached(sender, receiver, NAMES) {
+            return Ok(seen);
+        }
+        'names: for name in names {
+            if self.may_see_name(receiver, name) {
+                seen.push(Text::of(alloc, name.bytes())?)?;
+            }
+        }
+        Ok(seen)
     }
 
     /// What the receiver is told of the sender, as far as both ends asked for it.
@@ -70,8 +90,10 @@ impl Desk {
         &self,
         alloc: Global,
         sender: &Conn,
+        names: &[Text],
         receiver: &Conn,
     ) -> Result<Attached, AllocError>
+        requires names { TellsNames self.now sender.now names.now }
         ensures { IfOk result (λ a. a ≡ attached self.now sender.now receiver.now) }
     {
         let creds = if is_attached(sender, receiver, CREDS) {
@@ -79,11 +101,7 @@ impl Desk {
         } else {
             None
         };
-        let names = if is_attached(sender, receiver, NAMES) {
-            self.names_for(alloc, sender, receiver)?
-        } else {
-            Vec::new(alloc)
-        };
+        let names = self.names_for(alloc, sender, names, receiver)?;
         let description = description_for(alloc, sender, receiver)?;
         let moment = if is_attached(sender, receiver, MOMENT) {
             Some(self.moment)

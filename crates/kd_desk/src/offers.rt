@@ -5,8 +5,8 @@ ghost use Rattle.std.specs.List.{AllByRecursion};
 ghost use Rattle.kd_wire.specs.declared.reply.Reply.TheVariants as reply;
 ghost use Rattle.kd_image.specs.Images.{front, image_length, laid, padded};
 ghost use Rattle.kd_desk.specs.Drafts.{IsVisitable, StandByOffers, is_offer, parts_with, part_with};
-ghost use Rattle.kd_desk.specs.Sending.{plain_offer};
-ghost use Rattle.kd_commands.specs.State.{monitors};
+ghost use Rattle.kd_desk.specs.Sending.{TellsNames, plain_offer, when_told};
+ghost use Rattle.kd_commands.specs.State.{is_monitor, monitors};
 
 use crate::change::Change;
 use crate::content::Content;
@@ -17,7 +17,7 @@ use bytes::Bytes;
 use kd_commands::{Conn, WhoKind};
 use kd_image::{Attached, Message, build, image_len, is_short};
 use kd_item::{padding, put_bytes, put_zeros};
-use kd_types::{Blob, Kind, Refusal};
+use kd_types::{Blob, Kind, Refusal, Text};
 use kd_wire::Reply;
 use std::alloc::{AllocError, Global};
 use std::marker::Model;
@@ -43,7 +43,7 @@ impl Model for Offers {
 
 impl Offers {
     #[tactic(auto, using(crate::proofs::Visits::nothing_offered))]
-    fn new(alloc: Global) -> Offers
+    pub(crate) fn new(alloc: Global) -> Offers
         ensures { result ≡ [] }
     {
         Offers {
@@ -82,13 +82,21 @@ impl Offers {
     }
 }
 
-/// A message on its way: with the payloads that all its receivers share, and the id that its images
-/// name as destination.
+/// A message on its way: with the payloads that all its receivers share, the names of its sender
+/// that may be attached, and the id that its images name as destination.
 #[derive(Drop)]
-struct Letter {
+pub(crate) struct Letter {
     message: Message,
     payload: Bytes<Global>,
+    pub(crate) names: Vec<Text>,
     dst: u64,
+}
+
+/// Whether it is shown what others are told.
+fn is_monitor(conn: &Conn) -> bool
+    ensures { result ≡ is_monitor conn.now.kind }
+{
+    matches!(conn.kind, Kind::Monitor)
 }
 
 /// Appends a payload, with zeros up to the next multiple of 8.
@@ -141,6 +149,29 @@ fn content_for(
     })
 }
 
+impl Letter {
+    /// The letter of a message; its payloads are laid out once, for all its receivers.
+    pub(crate) fn of(
+        alloc: Global,
+        message: Message,
+        names: Vec<Text>,
+        dst: u64,
+    ) -> Result<Letter, AllocError>
+        ensures message { IfOk result (λ l. l.message ≡ message) }
+        ensures payload { IfOk result (λ l. l.payload ≡ laid message.payloads) }
+        ensures names { IfOk result (λ l. l.names.items ≡ names.items) }
+        ensures dst { IfOk result (λ l. l.dst ≡ dst) }
+    {
+        let payload = Bytes::from_vec(lay(alloc, message.payloads.blobs())?)?;
+        Ok(Letter {
+            message,
+            payload,
+            names,
+            dst,
+        })
+    }
+}
+
 impl Desk {
     /// One offer more, of the letter to this receiver.
     #[tactic(auto, unfolding(crate::specs::Sending::plain_offer))]
@@ -154,6 +185,7 @@ impl Desk {
         must: bool,
     ) -> Result<(), Refusal>
         requires laid { letter.now.payload ≡ laid letter.now.message.payloads }
+        requires names { TellsNames self.now sender.now letter.now.names.items }
         requires seat { receiver.now.seat < 64 }
         ensures ok { OnOk result (offers.new
             ≡ offers.old
@@ -162,7 +194,7 @@ impl Desk {
             ∷ []) }
         ensures err { IfErr result (λ e. e ≡ Refusal.OutOfMemory) }
     {
-        let attached = self.attached(alloc, sender, receiver)?;
+        let attached = self.attached(alloc, sender, &letter.names, receiver)?;
         // A message that isn't too long and 64 names don't come near this length.
         if !is_short(&letter.message, &attached) {
             return Err(Refusal::OutOfMemory);
@@ -179,8 +211,33 @@ impl Desk {
         Ok(())
     }
 
+    /// One offer more, of the letter to this connection, if it is told: it may let it go by.
+    pub(crate) fn offer_where(
+        &self,
+        alloc: Global,
+        offers: &mut Offers,
+        sender: &Conn,
+        letter: &Letter,
+        conn: &Conn,
+        told: bool,
+    ) -> Result<(), Refusal>
+        requires laid { letter.now.payload ≡ laid letter.now.message.payloads }
+        requires names { TellsNames self.now sender.now letter.now.names.items }
+        requires seat { conn.now.seat < 64 }
+        ensures ok { OnOk result (offers.new
+            ≡ offers.old
+            ++ when_told told
+            (plain_offer self.now sender.now letter.now.message letter.now.dst false conn.now)) }
+        ensures err { IfErr result (λ e. e ≡ Refusal.OutOfMemory) }
+    {
+        if !told {
+            return Ok(());
+        }
+        self.offer(alloc, offers, sender, letter, conn, false)
+    }
+
     /// The offers of a message to this receiver, which must be placed, and to each monitor.
-    pub(crate) fn offers(
+    pub(crate) fn unicast_offers(
         &self,
         alloc: Global,
         sender: &Conn,
@@ -195,19 +252,12 @@ impl Desk {
             (monitors self.now)) }
         ensures err { IfErr result (λ e. e ≡ Refusal.OutOfMemory) }
     {
-        let payload = Bytes::from_vec(lay(alloc, message.payloads.blobs())?)?;
-        let dst = receiver.id.0;
-        let letter = Letter {
-            message,
-            payload,
-            dst,
-        };
+        let names = self.names_to_tell(alloc, sender)?;
+        let letter = Letter::of(alloc, message, names, receiver.id.0)?;
         let mut offers = Offers::new(alloc);
         self.offer(alloc, &mut offers, sender, &letter, receiver, true)?;
         'monitors: for conn in &self.conns {
-            if matches!(conn.kind, Kind::Monitor) {
-                self.offer(alloc, &mut offers, sender, &letter, conn, false)?;
-            }
+            self.offer_where(alloc, &mut offers, sender, &letter, conn, is_monitor(conn))?;
         }
         Ok(offers)
     }

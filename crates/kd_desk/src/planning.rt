@@ -7,7 +7,7 @@ ghost use Rattle.kd_wire.specs.Commands.{opcode_in};
 ghost use Rattle.kd_wire.specs.Opcodes.{opcode_number};
 ghost use Rattle.kd_wire.specs.WellFormed.{is_well_formed};
 ghost use Rattle.kd_desk.specs.Drafts.{PlanResult, quiet_draft};
-ghost use Rattle.kd_desk.specs.Runs.{answered, conn_answered, is_handover_by, is_not_run, is_plain, is_plain_send, is_planned, takes_over};
+ghost use Rattle.kd_desk.specs.Runs.{answered, conn_answered, is_handover_by, is_not_run, is_planned, is_run_send, is_unsealed, takes_over};
 ghost use Rattle.kd_commands.specs.Plans.{itself};
 ghost use Rattle.kd_commands.specs.State.{conn_of, is_ordinary};
 ghost use Rattle.kd_commands.specs.Step.{from_fresh, from_gone, from_old_keeper};
@@ -18,42 +18,29 @@ use crate::desk::Desk;
 use crate::hello::Wanted;
 use crate::naming::has_activator;
 use crate::plan::Plan;
+use crate::sending::ANY;
 use kd_commands::{Conn, Sent, Who, WhoKind};
 use kd_types::{ConnId, Creds, Kind, NameFlags, Refusal, Seat, SendFlags, Text};
 use kd_wire::{Command, Reply, WireItem};
 use std::alloc::Global;
 
-/// The destination of a broadcast.
-pub(crate) const ANY: u64 = u64::MAX;
-
-fn is_plain(item: &WireItem) -> bool
-    ensures { result ≡ is_plain item.now }
+/// Whether a message has no sealed bytes, and no reply is expected where it is for one receiver.
+fn is_run_send(flags: SendFlags, dst: u64, items: &[WireItem]) -> bool
+    ensures { result ≡ is_run_send flags dst items.now }
 {
-    matches!(item, WireItem::Payload(_) | WireItem::DstName(_))
+    (dst == ANY || !flags.expects_reply()) && are_unsealed(items)
 }
 
-/// Whether a message goes to one receiver, expects no reply, and has nothing but payloads and the
-/// name that it is sent to.
-fn is_plain_send(flags: SendFlags, dst: u64, items: &[WireItem]) -> bool
-    ensures { result ≡ is_plain_send flags dst items.now }
+fn are_unsealed(items: &[WireItem]) -> bool
+    ensures { result ≡ all_of is_unsealed items.now }
 {
-    if flags.expects_reply() {
-        return false;
-    }
-    if dst == ANY {
-        return false;
-    }
-    are_plain(items)
+    items
+        .iter()
+        .all(|item| !matches!(item, WireItem::Sealed { .. }))
 }
 
-fn are_plain(items: &[WireItem]) -> bool
-    ensures { result ≡ all_of is_plain items.now }
-{
-    items.iter().all(|item| is_plain(item))
-}
-
-/// Whether the command is run so far: ordinary connections on the default endpoint; messages to one
-/// receiver, of which no reply is expected; names, rules, the moment, and what is sealed.
+/// Whether the command is run so far: ordinary connections on the default endpoint; messages without
+/// sealed bytes, of which no reply is expected; names, rules, the moment, and what is sealed.
 #[tactic(auto, unfolding(crate::specs::Runs::is_planned))]
 fn runs(cmd: &Command) -> bool
     ensures { result ≡ is_planned cmd.now }
@@ -65,7 +52,7 @@ fn runs(cmd: &Command) -> bool
             dst,
             items,
             ..
-        } => is_plain_send(*flags, *dst, items.items()),
+        } => is_run_send(*flags, *dst, items.items()),
         Command::Byebye
         | Command::Close
         | Command::NameAcquire { .. }

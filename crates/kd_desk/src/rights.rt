@@ -121,12 +121,14 @@ impl Desk {
     ) -> Result<bool, AllocError>
         ensures { IfOk result (λ sees. sees ≡ may_see self.now conn.now other) }
     {
+        if conn.endpoint == 0 {
+            return Ok(true);
+        }
         let names = self.registry.names_of(alloc, other)?;
         Ok(self.endpoint_grants(conn, Level::See, &names))
     }
 
     /// Whether the connection may send to another one.
-    #[tactic(auto, unfolding(kd_commands::specs::Rights::may_talk))]
     pub(crate) fn may_talk(
         &self,
         alloc: Global,
@@ -136,9 +138,18 @@ impl Desk {
         ensures { IfOk result (λ talks. talks ≡ may_talk self.now conn.now other.now) }
     {
         let names = self.registry.names_of(alloc, other.id)?;
+        Ok(self.talks_by(conn, other, &names))
+    }
+
+    /// Whether the connection may send to another one, which owns these names.
+    #[tactic(auto, unfolding(kd_commands::specs::Rights::may_talk))]
+    pub(crate) fn talks_by(&self, conn: &Conn, other: &Conn, names: &[Text]) -> bool
+        requires { names.now ≡ names_of self.now.registry other.now.id }
+        ensures { result ≡ may_talk self.now conn.now other.now }
+    {
         let knows = self.is_privileged(&conn.creds)
             || conn.creds.uid == other.creds.uid
-            || grants_some(&self.policy, Scope::Bus, Level::Talk, &conn.creds, &names);
-        Ok(knows && self.endpoint_grants(conn, Level::Talk, &names))
+            || grants_some(&self.policy, Scope::Bus, Level::Talk, &conn.creds, names);
+        knows && self.endpoint_grants(conn, Level::Talk, names)
     }
 }

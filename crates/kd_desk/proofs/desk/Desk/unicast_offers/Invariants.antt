@@ -3,7 +3,7 @@ use Rattle.kd_model.specs.Words.{those}
 use Rattle.kd_commands.specs.declared.conn.Conn.{Conn}
 use Rattle.kd_commands.specs.State.{is_monitor}
 use Rattle.kd_desk.specs.Sending.{plain_offer}
-use Rattle.kd_desk.proofs.desk.Desk.offers.Given as goal
+use Rattle.kd_desk.proofs.desk.Desk.unicast_offers.Given as goal
 
 abbrev pub invariant-monitors : goal.invariant-monitors
 invariant-monitors l =

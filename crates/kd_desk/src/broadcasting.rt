@@ -1,0 +1,102 @@
+//! Whom a broadcast is for.
+
+ghost use Rattle.std.specs.Prelude.{◌≡◌, length, map, false, IfErr, IfOk};
+ghost use Rattle.kd_registry.specs.Changes.{names_of};
+ghost use Rattle.kd_image.specs.Images.{any};
+ghost use Rattle.kd_commands.specs.Audience.{audience, broadcast, is_shown, is_told};
+ghost use Rattle.kd_desk.specs.Sending.{plain_offer};
+
+use crate::desk::Desk;
+use crate::offers::{Letter, Offers};
+use crate::sending::ANY;
+use kd_bloom::Bits;
+use kd_commands::Conn;
+use kd_image::Message;
+use kd_match::Subject;
+use kd_types::{Kind, OwnerChange, Refusal, Text};
+use std::alloc::Global;
+
+impl Desk {
+    /// Whether an ordinary connection is shown the broadcast of a sender that owns these names: it
+    /// asks for it by a rule, and may send to the sender. Without a rule nothing else is looked at.
+    /// What a subject of a rule may borrow is named, though a message borrows no change of a name:
+    /// the borrow checker asks for it.
+    #[tactic(auto, unfolding(kd_commands::specs::Audience::is_shown))]
+    fn is_shown_broadcast(
+        &self,
+        sender: &Conn,
+        names: &[Text],
+        filter: &Bits,
+        generation: u64,
+        conn: &Conn,
+    ) -> bool
+        requires filter { length filter.now ≡ self.now.rules.size }
+        requires names { names.now ≡ names_of self.now.registry sender.now.id }
+        ensures { result
+            ≡ is_shown self.now
+            (broadcast sender.now (record { generation = generation; bits = filter.now }))
+            conn.now }
+    {
+        let _change: Option<&OwnerChange> = None;
+        let subject = Subject::Message {
+            source: sender.id,
+            names,
+            filter,
+            generation,
+        };
+        !(conn.id == sender.id)
+            && self.matches.admits(conn.id, &subject)
+            && self.talks_by(conn, sender, names)
+    }
+
+    /// Whether the connection is told the broadcast: a monitor is, and an ordinary connection that
+    /// is shown it.
+    fn hears(
+        &self,
+        sender: &Conn,
+        names: &[Text],
+        filter: &Bits,
+        generation: u64,
+        conn: &Conn,
+    ) -> bool
+        requires filter { length filter.now ≡ self.now.rules.size }
+        requires names { names.now ≡ names_of self.now.registry sender.now.id }
+        ensures { result
+            ≡ is_told self.now
+            (broadcast sender.now (record { generation = generation; bits = filter.now }))
+            conn.now }
+    {
+        match conn.kind {
+            Kind::Monitor => true,
+            Kind::Ordinary => self.is_shown_broadcast(sender, names, filter, generation, conn),
+            Kind::Activator | Kind::Holder => false,
+        }
+    }
+
+    /// The offers of a broadcast, by rising seat. What its sender owns is looked up once.
+    pub(crate) fn broadcast_offers(
+        &self,
+        alloc: Global,
+        sender: &Conn,
+        message: Message,
+        filter: &Bits,
+        generation: u64,
+    ) -> Result<Offers, Refusal>
+        requires filter { length filter.now ≡ self.now.rules.size }
+        ensures ok { IfOk result (λ o.
+            o
+            ≡ map (plain_offer self.now sender.now message any false)
+            (audience self.now
+            (broadcast sender.now (record { generation = generation; bits = filter.now })))) }
+        ensures err { IfErr result (λ e. e ≡ Refusal.OutOfMemory) }
+    {
+        let names = self.registry.names_of(alloc, sender.id)?;
+        let letter = Letter::of(alloc, message, names, ANY)?;
+        let mut offers = Offers::new(alloc);
+        'receivers: for conn in &self.conns {
+            let told = self.hears(sender, &letter.names, filter, generation, conn);
+            self.offer_where(alloc, &mut offers, sender, &letter, conn, told)?;
+        }
+        Ok(offers)
+    }
+}

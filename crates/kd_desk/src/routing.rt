@@ -1,0 +1,208 @@
+//! Where a message to one receiver goes.
+
+ghost use Rattle.std.specs.Prelude.{◌≡◌, ◌&&◌, ◌∷◌, [], not, ◌<◌, false, IfOk, IfSome, Some, option_map};
+ghost use Rattle.kd_commands.specs.Rights.{may_talk};
+ghost use Rattle.kd_commands.specs.Send.{asker_of, is_reply, live_ordinary, receiver, refusals_by_id, refusals_by_name, refusals_of_unicast};
+ghost use Rattle.kd_commands.specs.Messages.{expects, is_broadcast};
+ghost use Rattle.kd_desk.specs.Sending.{Judges, change_of, reaches_activator, refusals_of_target};
+
+use crate::change::Change;
+use crate::desk::Desk;
+use crate::sending::destination;
+use kd_commands::{Conn, Sent};
+use kd_name::is_name;
+use kd_types::{ConnId, Cookie, Kind, Refusal, Text};
+use std::alloc::Global;
+
+/// Whether it is an activator.
+fn is_placeholder(found: Option<&Conn>) -> bool
+    ensures { result ≡ reaches_activator (option_map (λ c. c.now) found.entry) }
+{
+    match found {
+        Some(conn) => matches!(conn.kind, Kind::Activator),
+        None => false,
+    }
+}
+
+impl Desk {
+    /// The live ordinary connection of this id.
+    fn live_ordinary(&self, id: ConnId) -> Option<&Conn>
+        ensures conn { option_map (λ c. c.now) result ≡ live_ordinary self.now id }
+        ensures seat { IfSome result (λ c. c.now.seat < 64) }
+    {
+        self.conns.iter().find(|conn| conn.id == id && matches!(conn.kind, Kind::Ordinary))
+    }
+
+    /// Whom the message would answer: the owner of the name, if one is given, and else the id.
+    fn asker(&self, sent: &Sent) -> ConnId
+        ensures { result ≡ asker_of self.now sent.now }
+    {
+        match destination(sent.items.items()) {
+            Some(name) => self.owner_id(name),
+            None => ConnId(sent.dst),
+        }
+    }
+
+    /// Whether the message is the reply to a request that waits for the sender's.
+    #[tactic(auto, unfolding(kd_commands::specs::Send::is_reply))]
+    pub(crate) fn is_reply(&self, sender: &Conn, sent: &Sent) -> bool
+        requires { is_broadcast sent.now ≡ false }
+        ensures { result ≡ is_reply self.now sender.now sent.now }
+    {
+        if sent.flags.expects_reply() {
+            return false;
+        }
+        if sent.last == 0 {
+            return false;
+        }
+        self.replies
+            .has(self.asker(sent), sender.id, Cookie(sent.last))
+    }
+
+    /// The change that a message is to the desk: a reply answers its request.
+    pub(crate) fn change_of(&self, sent: &Sent, is_reply: bool) -> Change
+        ensures { result ≡ change_of self.now sent.now is_reply }
+    {
+        if is_reply {
+            Change::Answers {
+                asker: self.asker(sent),
+                cookie: Cookie(sent.last),
+            }
+        } else {
+            Change::Nothing
+        }
+    }
+
+    /// Whom the message reaches, if anybody.
+    fn receiver(&self, sent: &Sent) -> Option<&Conn>
+        ensures conn { option_map (λ c. c.now) result ≡ receiver self.now sent.now }
+        ensures seat { IfSome result (λ c. c.now.seat < 64) }
+    {
+        match destination(sent.items.items()) {
+            Some(name) => self.conn_of(self.owner_id(name)),
+            None => self.live_ordinary(ConnId(sent.dst)),
+        }
+    }
+
+    /// Whether the sender may send to the id: a connection has it, which the sender may see, or
+    /// whose request it answers.
+    fn judge_id(
+        &self,
+        alloc: Global,
+        sender: &Conn,
+        sent: &Sent,
+        found: Option<&Conn>,
+        expected: bool,
+    ) -> Result<(), Refusal>
+        requires found { option_map (λ c. c.now) found ≡ receiver self.now sent.now }
+        requires expected { expected ≡ is_reply self.now sender.now sent.now }
+        ensures { Judges (refusals_by_id self.now sender.now sent.now) result }
+    {
+        if found.is_none() {
+            return Err(Refusal::NoSuchConnection);
+        }
+        let sees = self.may_see(alloc, sender, ConnId(sent.dst))?;
+        if !sees && !expected {
+            return Err(Refusal::NoSuchConnection);
+        }
+        Ok(())
+    }
+
+    /// Whether the sender may send to the owner of the name: it has one, which the sender may see,
+    /// or whose request it answers; it is the one that the id says too, if one is given; and it may
+    /// be started.
+    fn judge_name(
+        &self,
+        sender: &Conn,
+        sent: &Sent,
+        name: &Text,
+        found: Option<&Conn>,
+        expected: bool,
+    ) -> Result<(), Refusal>
+        requires found { option_map (λ c. c.now) found ≡ receiver self.now sent.now }
+        requires expected { expected ≡ is_reply self.now sender.now sent.now }
+        ensures { Judges (refusals_by_name self.now sender.now sent.now name.now) result }
+    {
+        if !is_name(name.bytes()) {
+            return Err(Refusal::BadName);
+        }
+        let Some((owner, _)) = self.registry.owner(name.bytes()) else {
+            return Err(Refusal::NoSuchName);
+        };
+        if !self.may_see_name(sender, name) && !expected {
+            return Err(Refusal::NoSuchName);
+        }
+        if sent.dst != 0 && sent.dst != owner.0 {
+            return Err(Refusal::NameMoved { owner });
+        }
+        if sent.flags.no_auto_start() && is_placeholder(found) {
+            return Err(Refusal::NotStarted);
+        }
+        Ok(())
+    }
+
+    /// Whether a connection may send to another one: if it may talk to it, or answers its request.
+    fn judge_talk(
+        &self,
+        alloc: Global,
+        sender: &Conn,
+        receiver: &Conn,
+        expected: bool,
+    ) -> Result<(), Refusal>
+        ensures { Judges ((
+          not (may_talk self.now sender.now receiver.now)
+              && not expected,
+          Refusal.NotPermitted,
+        )
+            ∷ []) result }
+    {
+        let talks = self.may_talk(alloc, sender, receiver)?;
+        if !talks && !expected {
+            return Err(Refusal::NotPermitted);
+        }
+        Ok(())
+    }
+
+    /// Whether the sender may send to the name or the id that the message says.
+    fn judge_target(
+        &self,
+        alloc: Global,
+        sender: &Conn,
+        sent: &Sent,
+        found: Option<&Conn>,
+        expected: bool,
+    ) -> Result<(), Refusal>
+        requires found { option_map (λ c. c.now) found ≡ receiver self.now sent.now }
+        requires expected { expected ≡ is_reply self.now sender.now sent.now }
+        ensures { Judges (refusals_of_target self.now sender.now sent.now) result }
+    {
+        match destination(sent.items.items()) {
+            Some(name) => self.judge_name(sender, sent, name, found, expected),
+            None => self.judge_id(alloc, sender, sent, found, expected),
+        }
+    }
+
+    /// Whom the message reaches, or why it is refused by where it goes.
+    pub(crate) fn route(
+        &self,
+        alloc: Global,
+        sender: &Conn,
+        sent: &Sent,
+        expected: bool,
+    ) -> Result<&Conn, Refusal>
+        requires quiet { expects sent.now ≡ false }
+        requires expected { expected ≡ is_reply self.now sender.now sent.now }
+        ensures judged { Judges (refusals_of_unicast self.now sender.now sent.now) result }
+        ensures reached { IfOk result (λ r. receiver self.now sent.now ≡ Some r.now) }
+        ensures seat { IfOk result (λ r. r.now.seat < 64) }
+    {
+        let found = self.receiver(sent);
+        self.judge_target(alloc, sender, sent, found, expected)?;
+        // Whoever owns a name is connected.
+        let Some(receiver) = found else {
+            return Err(Refusal::OutOfMemory);
+        };
+        self.judge_talk(alloc, sender, receiver, expected)?;
+        Ok(receiver)
+    }
+}
