@@ -1,5 +1,5 @@
 -- What each put on the desk owes.
-use Rattle.std.specs.Prelude.{◌≡◌, ◌⊎◌, ℕ, suc, true, false, cond, List, [], ◌∷◌, ◌++◌, Option, Some, None, option_map, refl}
+use Rattle.std.specs.Prelude.{◌≡◌, ◌⊎◌, ℕ, suc, false, cond, List, [], ◌∷◌, ◌++◌, Option, Some, None, option_map, refl}
 use Rattle.std.proofs.Common.{sym, ap, ◌∙◌, subst, eqb-true, eq-eqb, ne_eqb, inl, inr, arith}
 use Rattle.std.proofs.lemmas.Bool.{true≢false}
 use mathlib.Core.Logic.{dite}
@@ -83,23 +83,23 @@ removes_may_be_put g v it = still_owes (removed g) v refl (λ hand. refl) (λ j 
 
 module _ (l : Left) (v : View Turn) (it : EndsTurn (left l) v) (mine : IsOwn (part v 0).own l.generation l.who.member) where
   module _ (w : Locks Turn) (fits : Fits v w) (tie : Tie w.told) where
-    abbrev list : List (ℕ × Turn)
+    abbrev pub list : List (ℕ × Turn)
     list = w.told.lists 0
 
-    abbrev slot : Slot
+    abbrev pub slot : Slot
     slot = slot_of list
 
     whole : (part v 0).seen ≡ list
     whole = fits.whole 0 it.desk
 
-    is_now : IsLeft slot l
+    pub is_now : IsLeft slot l
     unfolding IsTold
     is_now = subst (λ xs. IsLeft (slot_of xs) l) whole it.is
 
-    know : Knows slot (λ c. sitter c list) (λ c. open_by (addressed c unborn list) false)
+    pub know : Knows slot (λ c. sitter c list) (λ c. open_by (addressed c unborn list) false)
     know = lists_know list tie.told tie.fair
 
-    at : (c : ℕ) → IsAt c l.generation v.name l.who.member (sitter c list)
+    pub at : (c : ℕ) → IsAt c l.generation v.name l.who.member (sitter c list)
     at c = own_at v.name l.generation list (part v 0).own tie.fair (fits.mine 0) l.who.member mine c
 
     abbrev move : Move

@@ -1,19 +1,19 @@
 -- A pool along its list: whether it is open, and which of its slices are received and not freed.
 use Rattle.std.specs.Prelude.{◌≡◌, ℕ, ◌==◌, ◌&&◌, ◌||◌, Bool, true, false, not, List, [], ◌∷◌, Option, Some, None, is_some, refl}
-use Rattle.std.proofs.Common.{sym, ap, ◌∙◌, arith}
+use Rattle.std.proofs.Common.{sym, ap, ◌∙◌, arith, inl}
 use Rattle.std.proofs.lemmas.Bool.{true≢false}
 use Rattle.kd_model.specs.Words.{contains}
 use Rattle.kd_acts.specs.declared.receive.RecvMode.{RecvMode}
 use Rattle.kd_acts.specs.State.{Act, Answer, Hold, Pool, by_desk, publish, receive, read, free, idle as idle_act, got}
 use Rattle.kd_acts.specs.Steps.{after, answer, pool_step, closed_answer}
-use Rattle.kd_acts.specs.Lasting.{AreNumbered, is_open, open_after, is_handed_in}
+use Rattle.kd_acts.specs.Lasting.{AreNumbered, is_open, open_after, is_handed_in, handed_after}
 use Rattle.kd_acts.proofs.Lasting.{open_follows, numbers_stay}
 use Rattle.kd_acts.proofs.Handed.{handed_follows}
 use Rattle.kd_commands.proofs.Members.{turned}
 use Rattle.kd_world.specs.State.{closed_pool}
 use Rattle.kd_histories.specs.Turns.{Turn, left, started, removed, did, idle}
 use Rattle.kd_histories.specs.Visits.{visit_made, made_by_turn, visits_made}
-use Rattle.kd_histories.specs.Pools.{hold_freed, hold_met, hold_after, hold_from, hold_of, IsDoneTurn, AreDone}
+use Rattle.kd_histories.specs.Pools.{IsAnswered, hold_freed, hold_met, hold_after, hold_from, hold_of, IsDoneTurn, AreDone}
 use Rattle.kd_histories.specs.Known.{open_by}
 use Rattle.kd_histories.proofs.Snocs.{open_append}
 
@@ -38,6 +38,35 @@ freed_handed (m ∷ ns) h n d =
   where
     both : (a a' b c : Bool) → a ≡ a' → (not b && (not a && c)) ≡ (not (a' || b) && c)
     both a a' b c e = grind arith
+
+-- ---- what its answers tell
+
+-- whether a pool is open, and what is handed, follows from what an act is answered as from what its
+-- pool answers
+pub answered_open : (h : Hold) (a : Act) (o : Answer) (b : Bool) → IsAnswered h a o → open_after a (answer h a) b ≡ open_after a o b
+answered_open h (by_desk v) o b is = ap (λ x. open_after (by_desk v) x b) (sym is)
+answered_open h (publish generation n c) o b is = refl
+answered_open h (receive mode) o b is = refl
+answered_open h (read n wants) o b is = refl
+answered_open h (free n) o b is = refl
+answered_open h idle_act o b is = refl
+
+pub answered_handed : (h : Hold) (a : Act) (o : Answer) (n : ℕ) (b : Bool) → IsAnswered h a o → handed_after a (answer h a) n b ≡ handed_after a o n b
+answered_handed h (by_desk v) o n b is = ap (λ x. handed_after (by_desk v) x n b) (sym is)
+answered_handed h (publish generation m c) o n b is = refl
+answered_handed h (receive mode) o n b is = ap (λ x. handed_after (receive mode) x n b) (sym is)
+answered_handed h (read m wants) o n b is = refl
+answered_handed h (free m) o n b is = refl
+answered_handed h idle_act o n b is = refl
+
+-- the pool's answer is one
+pub is_answered : (h : Hold) (a : Act) (o : Answer) → o ≡ answer h a → IsAnswered h a o
+is_answered h (by_desk v) o e = e
+is_answered h (publish generation n c) o e = e
+is_answered h (receive mode) o e = e
+is_answered h (read n wants) o e = inl e
+is_answered h (free n) o e = e
+is_answered h idle_act o e = e
 
 -- ---- along the list
 
@@ -74,7 +103,7 @@ open_by_one (started b) h is = refl
 open_by_one (removed g) h is = refl
 open_by_one (did d) h is =
     open_follows (hold_met d h) d.act
-    ∙ (ap (λ a. open_after d.act a (is_open (hold_met d h))) (sym is.answer)
+    ∙ (answered_open (hold_met d h) d.act d.answer (is_open (hold_met d h)) is.answer
     ∙ (ap (open_after d.act d.answer) (freed_open d.freed h) ∙ opens_visit d.act d.answer (is_open h)))
 open_by_one idle h is = refl
 

@@ -130,7 +130,7 @@ some_sitter a b e = cc
 no_sitter : (t : Sitter) → ◌≡◌ {A = Option Sitter} None (Some t) → ⊥
 no_sitter t e = cc
 
-moved_same : (g : ℕ) (m : WhoKind) → moved g m m ≡ stays
+pub moved_same : (g : ℕ) (m : WhoKind) → moved g m m ≡ stays
 moved_same g who.Fresh = refl
 moved_same g (who.Conn id s) = refl
 moved_same g (who.Keeper e) = refl
@@ -310,6 +310,18 @@ module _ (s : Slot) (k : Seats) (up : Ups) (j : ℕ) (l : Left) (w : Knows s k u
 
       go : (r : Result Plan Refusal) → plans ≡ r → Goal
       go (Err why) e = refused_one why e
+      go (Ok p) e = ends p e (first_ends p.parts l.outs) refl
+
+  -- what its caller is then: what it was, or what the plan makes of it
+  pub becomes_either : (l.becomes ≡ l.who.member) ⊎ ((kind : Kind) × ((next : Desk) × IsNow s.desk next kind l.who.member l.becomes))
+  becomes_either = go plans refl
+    where
+      ends : (p : Plan) → plans ≡ Ok p → (o : Option Refusal) → first_ends p.parts l.outs ≡ o → (l.becomes ≡ l.who.member) ⊎ ((kind : Kind) × ((next : Desk) × IsNow s.desk next kind l.who.member l.becomes))
+      ends p e (Some why) f = inl (becomes_same p e why f)
+      ends p e None f = let x = it p e in inr (x.kind, (p.next, subst (λ b. IsNow s.desk p.next x.kind l.who.member b) (sym (becomes_is p e f)) x.now))
+
+      go : (r : Result Plan Refusal) → plans ≡ r → (l.becomes ≡ l.who.member) ⊎ ((kind : Kind) × ((next : Desk) × IsNow s.desk next kind l.who.member l.becomes))
+      go (Err why) e = inl (becomes_refused why e)
       go (Ok p) e = ends p e (first_ends p.parts l.outs) refl
 
   -- who moves was carried out

@@ -6,6 +6,7 @@ pub mod Holds
 pub mod Knowing
 pub mod Marks
 pub mod Owing
+pub mod Owners
 pub mod Puts
 pub mod Resting
 pub mod Settling

@@ -14,7 +14,7 @@ use Rattle.kd_acts.proofs.Reserved.{IsOwed, generation_stays, owed_begins, owed_
 use Rattle.kd_hands.specs.Lists.{made_by}
 use Rattle.kd_world.specs.State.{closed_pool}
 use Rattle.kd_histories.specs.Turns.{Did, Turn, left, started, removed, did, idle}
-use Rattle.kd_histories.specs.Pools.{hold_freed, hold_met, hold_after, hold_from, hold_of, IsDone, IsDoneTurn, AreDone}
+use Rattle.kd_histories.specs.Pools.{hold_freed, hold_met, hold_after, hold_from, hold_of, IsDone, IsDoneTurn, AreDone, IsAnswered}
 use Rattle.kd_histories.specs.Pairs.{Due, OwedIsDue, due, due_by, due_by_act, due_by_publish, due_from, IsPaired, IsPairedAct, ArePaired, owed, owed_by, owed_by_act, owed_from}
 use Rattle.kd_histories.proofs.Holds.{freed_numbered, numbered_after}
 
@@ -239,16 +239,16 @@ module _ (i j g n : ℕ) (o : Option Content) (k : Option Due) (h : Hold) (d : D
   by_visit drain x e = same_so (by_desk drain) refl
   by_visit (settle images) x e = same_so (by_desk (settle images)) refl
 
-  by_act : (a : Act) (x : Answer) → answer met a ≡ x → IsPairedAct n i a x k → Then a x
-  by_act (by_desk v) x e p = by_visit v x e
-  by_act (publish q m c) x e p = publishes_so i j g n q m o k met c x num_met e p w_met
+  by_act : (a : Act) (x : Answer) → IsAnswered met a x → IsPairedAct n i a x k → Then a x
+  by_act (by_desk v) x e p = by_visit v x (sym e)
+  by_act (publish q m c) x e p = publishes_so i j g n q m o k met c x num_met (sym e) p w_met
   by_act (receive mode) x e p = same_so (receive mode) refl
   by_act (read m wants) x e p = same_so (read m wants) refl
   by_act (free m) x e p = same_so (free m) refl
   by_act idle_act x e p = same_so idle_act refl
 
   pub did_so : Then d.act d.answer
-  did_so = by_act d.act d.answer (sym is.answer) pairs
+  did_so = by_act d.act d.answer is.answer pairs
 
 one_so : (i j g n : ℕ) (t : Turn) (o : Option Content) (k : Option Due) (h : Hold) → AreNumbered h.pool → IsDoneTurn h t → IsPaired n i t k → StandsIf j g n o k h
     → StandsIf j g n (cond (i == j) (owed_by g n t o) o) (due_by n i t k) (hold_after t h)

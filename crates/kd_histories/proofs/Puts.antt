@@ -20,13 +20,13 @@ use Rattle.kd_hands.proofs.Hands.{settled}
 use Rattle.kd_histories.specs.Turns.{Did, Turn, did, idle}
 use Rattle.kd_histories.specs.Visits.{visit_made, made_by_turn}
 use Rattle.kd_histories.specs.Seats.{Sitter, keeper, sitter}
-use Rattle.kd_histories.specs.Pools.{act_sweeps, hold_freed, hold_met, hold_after, hold_of, IsDone, IsDoneTurn}
+use Rattle.kd_histories.specs.Pools.{act_sweeps, hold_freed, hold_met, hold_after, hold_of, IsDone, IsDoneTurn, IsAnswered}
 use Rattle.kd_histories.specs.Pairs.{due, IsPaired, IsPairedAct}
 use Rattle.kd_histories.specs.Lent.{lends, out, hand_by, hand_by_act, hand_after, hand_received, empties}
 use Rattle.kd_histories.specs.Tie.{Tie}
 use Rattle.kd_histories.specs.Puts.{Acts, IdlesMayBePut, OwesPut, PublishesMayBePut, ReadsMayBePut, ReceivesMayBePut, VisitsMayBePut}
 use Rattle.kd_histories.proofs.Sitters.{sits}
-use Rattle.kd_histories.proofs.Holds.{freed_open, freed_handed, freed_numbered, numbered, told_open}
+use Rattle.kd_histories.proofs.Holds.{freed_open, freed_handed, freed_numbered, numbered, told_open, answered_handed, answered_open}
 use Rattle.kd_histories.proofs.Settling.{H, next_is, quiet, closes, comes_free, takes}
 use Rattle.kd_histories.proofs.Ties.{visits, between}
 use Rattle.kd_histories.proofs.Owing.{owed_is_due}
@@ -56,10 +56,10 @@ module _ (s : ℕ) (e : Turn) (v : View Turn) (held : (part v (suc s)).holds ≡
 
 -- ---- an act on a pool, with what was swept before it
 
--- its answer is the pool's, whatever the world is
+-- its answer is true, whatever the world is
 answer_is : (s : ℕ) (d : Did) (v : View Turn) (w : Locks Turn) → Fits v w → (part v (suc s)).holds ≡ true → IsDone (hold_of (part v (suc s)).seen) d
-    → answer (hold_met d (hold_of (w.told.lists (suc s)))) d.act ≡ d.answer
-answer_is s d v w fits held is = ap (λ list. answer (hold_met d (hold_of list)) d.act) (sym (fits.whole (suc s) held)) ∙ sym is.answer
+    → IsAnswered (hold_met d (hold_of (w.told.lists (suc s)))) d.act d.answer
+answer_is s d v w fits held is = subst (λ list. IsAnswered (hold_met d (hold_of list)) d.act d.answer) (fits.whole (suc s) held) is.answer
 
 module _ (s : ℕ) (d : Did) (v : View Turn) (w : Locks Turn) (fits : Fits v w) (held : (part v (suc s)).holds ≡ true) (h : Handed lends out keeper w)
     (is : IsDone (hold_of (part v (suc s)).seen) d) (frees : (n : ℕ) → contains n d.freed ≡ was_swept n (part v (suc s)).swept) where
@@ -74,11 +74,11 @@ module _ (s : ℕ) (d : Did) (v : View Turn) (w : Locks Turn) (fits : Fits v w) 
   now_is = next_is s (did d) v w fits held h
 
   open_is : is_open now ≡ open_after d.act d.answer (is_open before)
-  open_is = ap is_open now_is ∙ (open_follows (hold_met d before) d.act ∙ (ap (λ a. open_after d.act a (is_open (hold_met d before))) (answer_is s d v w fits held is) ∙ ap (open_after d.act d.answer) (freed_open d.freed before)))
+  open_is = ap is_open now_is ∙ (open_follows (hold_met d before) d.act ∙ (answered_open (hold_met d before) d.act d.answer (is_open (hold_met d before)) (answer_is s d v w fits held is) ∙ ap (open_after d.act d.answer) (freed_open d.freed before)))
 
   handed_is : (n : ℕ) → is_handed_in n now ≡ handed_after d.act d.answer n (not (was_swept n (part v (suc s)).swept) && is_handed_in n before)
   handed_is n = ap (is_handed_in n) now_is ∙ (handed_follows (hold_met d before) d.act n (freed_numbered d.freed before (numbered (w.told.lists (suc s))))
-      ∙ (ap (λ a. handed_after d.act a n (is_handed_in n (hold_met d before))) (answer_is s d v w fits held is)
+      ∙ (answered_handed (hold_met d before) d.act d.answer n (is_handed_in n (hold_met d before)) (answer_is s d v w fits held is)
       ∙ ap (handed_after d.act d.answer n) (freed_handed d.freed before n (numbered (w.told.lists (suc s))) ∙ ap (λ b. not b && is_handed_in n before) (frees n))))
 
   -- it hands nothing over, and opens and closes nothing
@@ -183,7 +183,7 @@ publishes_may_be_put s g m c d v it act mine = acts_alone s d v it sweeps pairs 
         met_is = ap (λ ns. hold_freed ns (hold_of list)) (freed_none s d v it sweeps)
 
         answered : answer (hold_of list) (publish g m c) ≡ d.answer
-        answered = ap (λ a. answer (hold_of list) a) (sym act) ∙ (ap (λ x. answer x d.act) (sym met_is) ∙ answer_is s d v w fits it.alone.held it.is)
+        answered = sym (subst (λ a. IsAnswered (hold_of list) a d.answer) act (subst (λ x. IsAnswered x d.act d.answer) met_is (answer_is s d v w fits it.alone.held it.is)))
 
         pair : (o : Answer) → d.answer ≡ o → IsPairedAct n v.name (publish g m c) o (due n list)
         pair done e = tt
@@ -225,7 +225,7 @@ module _ (s : ℕ) (d : Did) (v : View Turn) (it : Acts s d v) (mode : RecvMode)
       met_is = ap (λ ns. hold_freed ns (hold_of list)) (freed_none s d v it sweeps_none)
 
       tells : answer (hold_of list) (receive mode) ≡ got m offset len dropped
-      tells = ap (λ a. answer (hold_of list) a) (sym act) ∙ (ap (λ x. answer x d.act) (sym met_is) ∙ (answer_is s d v w fits it.alone.held it.is ∙ told))
+      tells = sym (subst (λ a. IsAnswered (hold_of list) a d.answer) act (subst (λ x. IsAnswered x d.act d.answer) met_is (answer_is s d v w fits it.alone.held it.is))) ∙ told
 
       by_mode : (b : Bool) → hands_over mode ≡ b → SettlesPut s (did d) v w
       by_mode false q = hand_same

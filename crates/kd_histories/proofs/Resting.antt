@@ -1,5 +1,5 @@
 -- What the lists say whenever nobody holds the desk.
-use Rattle.std.specs.Prelude.{◌≡◌, ℕ, suc, false, ◌++◌}
+use Rattle.std.specs.Prelude.{suc, false, ◌++◌}
 use Rattle.std.proofs.Common.{ap, ◌∙◌}
 use Rattle.std.proofs.lemmas.List.{append-nil}
 use Rattle.kd_world.specs.State.{closed_pool}

@@ -1,5 +1,5 @@
--- In reading order. Believe all of them: they say what the lists of a bus mean, and nothing else
--- does.
+-- In reading order. A reader has to believe all but the last two, in whose words the laws of lists
+-- and of puts are stated.
 
 -- what one turn did
 pub mod Turns

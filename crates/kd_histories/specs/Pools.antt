@@ -1,7 +1,9 @@
 -- A pool's list: the pool along it, and what is true of its entries.
-use Rattle.std.specs.Prelude.{◌≡◌, ◌<◌, ◌≤◌, ℕ, zero, suc, Bool, true, false, List, [], ◌∷◌, ◌++◌}
-use Rattle.kd_acts.specs.State.{Act, Hold, Visit, by_desk, close, drain, free}
+use Rattle.std.specs.Prelude.{◌≡◌, ◌⊎◌, ◌<◌, ◌≤◌, ℕ, zero, suc, Bool, true, false, List, [], ◌∷◌, ◌++◌}
+use Rattle.kd_types.specs.declared.refusal.Refusal.TheVariants.{NoSuchSlice}
+use Rattle.kd_acts.specs.State.{Act, Answer, Hold, Visit, by_desk, close, drain, free, idle as idle_act, publish, read, receive, refused}
 use Rattle.kd_acts.specs.Steps.{after, answer}
+use Rattle.kd_acts.specs.Lasting.{is_handed_in}
 use Rattle.kd_model.specs.Words.{contains}
 use Rattle.kd_hands.specs.Lists.{is_marked, is_word_of, was_swept}
 use Rattle.kd_world.specs.State.{closed_pool}
@@ -76,12 +78,23 @@ hold_of list = hold_from closed_pool list
 
 -- ---- what is true of an entry of a pool
 
--- it has the pool's generation, the marks that its visit swept, and the pool's answer behind them
+-- the answer is the pool's; but a read doesn't find a slice that its receiver has given back, whose
+-- mark isn't swept yet
+abbrev pub IsAnswered : Hold → Act → Answer → Type 0
+IsAnswered h (read n sealed) o =
+    (o ≡ answer h (read n sealed)) ⊎ ((o ≡ refused NoSuchSlice) × (is_handed_in n h ≡ true))
+IsAnswered h (by_desk v) o = o ≡ answer h (by_desk v)
+IsAnswered h (publish generation n c) o = o ≡ answer h (publish generation n c)
+IsAnswered h (receive mode) o = o ≡ answer h (receive mode)
+IsAnswered h (free n) o = o ≡ answer h (free n)
+IsAnswered h idle_act o = o ≡ answer h idle_act
+
+-- it has the pool's generation, the marks that its visit swept, and its answer behind them
 pub record IsDone (h : Hold) (d : Did) : Type 0 where
   pub generation : d.generation ≡ h.generation
   pub rising : AreRising 0 d.freed 256
   pub sweeps : act_sweeps d.act ≡ false → d.freed ≡ []
-  pub answer : d.answer ≡ answer (hold_met d h) d.act
+  pub answer : IsAnswered (hold_met d h) d.act d.answer
 
 -- no other entry stands in a pool's list but one that does nothing
 unfoldable pub IsDoneTurn : Hold → Turn → Type 0

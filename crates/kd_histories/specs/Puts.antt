@@ -1,6 +1,6 @@
 -- What a put of each kind of entry asks for: that the tie and the point on hands hold again,
 -- whatever others did meanwhile.
-use Rattle.std.specs.Prelude.{◌≡◌, ◌≢◌, ◌<◌, ℕ, suc, Bool, true, false, List, [], Option, Some, None, Ok}
+use Rattle.std.specs.Prelude.{◌≡◌, ◌≢◌, ◌<◌, ℕ, suc, Bool, true, false, List, [], ◌++◌, ◌∷◌, Option, Some, None, Ok}
 use Rattle.kd_model.specs.Words.{contains}
 use Rattle.kd_wire.specs.declared.command.Command.{Command}
 use Rattle.kd_acts.specs.declared.receive.RecvMode.{RecvMode}
@@ -112,6 +112,13 @@ abbrev pub LeavesMayBePut : Type 0
 LeavesMayBePut =
     (l : Left) (v : View Turn) → EndsTurn (left l) v
     → IsOwn (part v 0).own l.generation l.who.member → OwesPut v 0 (left l)
+
+-- whose caller is its own then too
+abbrev pub CallersAreOwn : Type 0
+CallersAreOwn =
+    (l : Left) (v : View Turn) → Stood BusFact v → EndsTurn (left l) v
+    → IsOwn (part v 0).own l.generation l.who.member
+    → IsOwn ((part v 0).own ++ (v.name, left l) ∷ []) l.generation l.becomes
 
 -- a bus comes, and the one before it goes, if there was one
 abbrev pub StartsMayBePut : Type 0

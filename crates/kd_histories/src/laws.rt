@@ -6,7 +6,7 @@ ghost use Rattle.kd_histories.specs.Pools.{SweepsTell};
 ghost use Rattle.kd_histories.specs.Pairs.{OwedIsDue};
 ghost use Rattle.kd_histories.specs.Tie.{Tie, no_entry};
 ghost use Rattle.kd_histories.specs.Known.{ExactlyAddressed, ListsKnow, OpenAreLive};
-ghost use Rattle.kd_histories.specs.Puts.{IdleDesksMayBePut, IdlesMayBePut, LeavesMayBePut, PublishesMayBePut, RaisesWhereNobodySits, ReadsMayBePut, ReceivesMayBePut, RemovesMayBePut, StartsMayBePut, VisitsMayBePut};
+ghost use Rattle.kd_histories.specs.Puts.{CallersAreOwn, IdleDesksMayBePut, IdlesMayBePut, LeavesMayBePut, PublishesMayBePut, RaisesWhereNobodySits, ReadsMayBePut, ReceivesMayBePut, RemovesMayBePut, StartsMayBePut, VisitsMayBePut};
 
 /// The tie holds before any entry.
 #[tactic(auto, using(crate::proofs::Ties::opening_tie))]
@@ -86,6 +86,11 @@ pub fn idles_may_be_put()
 /// A command may leave the desk when all that it addresses was visited.
 pub fn leaves_may_be_put()
     ensures { LeavesMayBePut }
+{}
+
+/// What its caller is then, it is by the pass's own entries.
+pub fn callers_stay_their_own()
+    ensures { CallersAreOwn }
 {}
 
 /// So may a new bus begin, behind one that was there or not.
