@@ -1,8 +1,8 @@
 //! Binders in memory.
 
 ghost use Rattle.std.specs.Prelude.{◌≡◌, ◌+◌, ◌<◌, IfOk, OnOk};
-ghost use Rattle.kd_outside.specs.Causes.{count_after};
 
+use crate::serving::serve_on;
 use crate::stock::{give_link_back, link_with, listener_of};
 use kd_outside::{Binder, Clock, Failed, ListBinder, ListClock, ListListener};
 use kd_types::{Moment, SessionEnd};
@@ -26,7 +26,7 @@ fn binder_of(
 
 /// A listener that was bound.
 fn listener_on(binder: &mut ListBinder, path: &str) -> Result<ListListener, Failed>
-    ensures gave { OnOk result (binder.new.gave ≡ count_after binder.old.gave) }
+    ensures gave { OnOk result (binder.new.gave ≡ binder.old.gave + 1) }
     ensures returned { binder.new.returned ≡ binder.old.returned }
 {
     binder.bind(path)
@@ -113,5 +113,23 @@ fn clocks_come_back_but_for_spare_ones(rt: HostRuntime) -> Result<(), Fail> {
     assert!(rt; binder.clocks().is_empty());
     give_back(&mut binder, first, clock);
     assert_eq!(rt; binder.clocks().len(), 1);
+    Ok(())
+}
+
+#[test]
+fn any_binder_serves_two_links_at_once(rt: HostRuntime) -> Result<(), Fail> {
+    let alloc = rt.alloc();
+    let (two, one) = (
+        listener_of(alloc, 2, Vec::new(alloc))?,
+        listener_of(alloc, 1, Vec::new(alloc))?,
+    );
+    let mut binder = binder_of(alloc, two, one)?;
+    assert_eq!(rt; serve_on(&mut binder, &rt, "two"), Ok(()));
+    assert_eq!(rt; serve_on(&mut binder, &rt, "one"), Err(Failed));
+    let [two, one] = binder.ended() else {
+        return Err("not two listeners")?;
+    };
+    assert_eq!(rt; two.ended().len(), 2);
+    assert_eq!(rt; one.ended().len(), 1);
     Ok(())
 }

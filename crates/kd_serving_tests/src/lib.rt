@@ -10,5 +10,8 @@ mod clocks;
 mod links;
 #[cfg(test)]
 mod listeners;
+mod serving;
 #[cfg(test)]
 mod stock;
+
+pub use serving::{serve_on, serve_two};

@@ -1,7 +1,6 @@
 //! Links and listeners that the tests begin with, and what is done with them.
 
 ghost use Rattle.std.specs.Prelude.{◌≡◌, ◌+◌, ◌<◌, IfOk, OnOk};
-ghost use Rattle.kd_outside.specs.Causes.{count_after};
 
 use kd_outside::{Failed, ListListener, Listener, MemLink, MemSink, MemSource, write_whole};
 use kd_types::SessionEnd;
@@ -37,7 +36,7 @@ pub(crate) fn link_with<R: Wait>(
     rt: &R,
     bytes: &[u8],
 ) -> Result<MemLink, Failed>
-    ensures gave { OnOk result (listener.new.gave ≡ count_after listener.old.gave) }
+    ensures gave { OnOk result (listener.new.gave ≡ listener.old.gave + 1) }
     ensures returned { listener.new.returned ≡ listener.old.returned }
 {
     let mut link = listener.accept(rt)?;
