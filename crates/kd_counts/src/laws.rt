@@ -14,8 +14,8 @@ pub fn generations_go_on()
     ensures { GenerationsGoOn }
 {}
 
-/// The size of an open pool follows from the acts on it and their answers: a raise gives it, a close
-/// that isn't refused ends it, and no other act changes it.
+/// The size of an open pool follows from the acts on it and their answers: a raise gives it, a
+/// close that isn't refused ends it, and no other act changes it.
 pub fn sizes_follow()
     ensures { SizesFollow }
 {}
