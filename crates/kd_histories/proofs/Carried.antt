@@ -1,7 +1,7 @@
 -- What a plan that is carried out does to who sits where, whoever its caller is: one of this bus, by
 -- the laws of plans, or one of another bus, who learns that its seat is free.
-use Rattle.std.specs.Prelude.{◌≡◌, ◌≢◌, ◌<◌, ◌⊎◌, ℕ, ◌&&◌, Bool, true, false, not, [], Option, Some, None, Result, Ok, Err, refl}
-use Rattle.std.proofs.Common.{sym, ap, ◌∙◌, subst, inl, inr, ⊎_elim}
+use Rattle.std.specs.Prelude.{◌≡◌, ◌≢◌, ◌<◌, ◌⊎◌, ℕ, ◌&&◌, Bool, true, false, not, [], Option, Some, None, Result, Ok, Err, refl, ◌≤◌, ◌+◌, ◌==◌}
+use Rattle.std.proofs.Common.{sym, ap, ◌∙◌, subst, inl, inr, ⊎_elim, arith}
 use Rattle.kd_types.specs.declared.creds.Kind.{Kind}
 use Rattle.kd_types.specs.declared.creds.Kind.TheVariants.{Ordinary}
 use Rattle.kd_types.specs.declared.refusal.Refusal.{Refusal}
@@ -15,7 +15,7 @@ use Rattle.kd_commands.specs.State.{Desk, unblocked}
 use Rattle.kd_commands.specs.Hello.{is_free}
 use Rattle.kd_commands.specs.Plans.{Part, Plan}
 use Rattle.kd_commands.specs.Seating.{AreSeated, IsElsewhere, IsKnown, IsLiveStill, IsLiveThen, IsNow, IsPlaced, IsRaisedFree, is_live, open_along}
-use Rattle.kd_commands.specs.Step.{from_old, plan}
+use Rattle.kd_commands.specs.Step.{from_old, plan, from_fresh}
 use Rattle.kd_commands.specs.Visits.{next_part}
 use Rattle.kd_commands.proofs.Callers.{callers_move}
 use Rattle.kd_commands.proofs.Moving.{moves}
@@ -23,9 +23,10 @@ use Rattle.kd_commands.proofs.Opens.{opens_are_live, opens_stay, raises_free}
 use Rattle.kd_commands.proofs.Others.{others_stay}
 use Rattle.kd_commands.proofs.Seating.{seating_stays}
 use Rattle.kd_world.specs.Planner.{is_fresh}
-use Rattle.kd_histories.specs.Slots.{finds_bus, planned, seeks_bus}
+use Rattle.kd_histories.specs.Slots.{finds_bus, planned, seeks_bus, has_bus}
 use Rattle.kd_histories.specs.Seats.{arrives, departs, stays, departure, moved}
-use Rattle.kd_histories.proofs.Waiting.{Learned, gone_learns, keeper_learns, unblocked_placed, unblocked_seated, unblocked_waits, waiting_is_unused, waits_through}
+use Rattle.kd_histories.proofs.Waiting.{Learned, gone_learns, keeper_learns, unblocked_placed, unblocked_seated, unblocked_waits, waiting_is_unused, waits_through, ids_through, bare_through}
+use Rattle.kd_model.proofs.Truth.{not_ok}
 
 -- the seat isn't the caller's
 abbrev pub IsAway : ℕ → WhoKind → Type 0
@@ -53,6 +54,8 @@ pub record Carried (d : Desk) (m : WhoKind) (p : Plan) : Type 0 where
   pub opens : IsLiveThen d p
   pub stops : IsLiveStill d p
   pub raises : IsRaisedFree d p
+  pub ids : p.next.next_id ≤ d.next_id + 1
+  pub bare : (m ≡ who.Fresh → ⊥) → d.conns ≡ [] → p.next.conns ≡ []
 
 -- ---- a caller of this bus
 
@@ -90,6 +93,8 @@ known_carried d k w x p s is e =
       opens = opens_are_live d k w x p s is e;
       stops = opens_stay d k w x p s is e;
       raises = raises_free d k w x p s is e;
+      ids = ids_through d w.member p (moves d k w x p is e);
+      bare = bare_through d w.member p (moves d k w x p is e);
     }
 
 -- ---- a caller of another bus
@@ -128,6 +133,8 @@ old_carried d None x p s waits e =
       opens = learned_live d d p l (λ seat. refl);
       stops = learned_stops d d p l;
       raises = learned_raises d d p l;
+      ids = subst (λ (f : Desk). f.next_id ≤ d.next_id + 1) (sym l.next) (omega arith);
+      bare = λ old none. ap (λ (f : Desk). f.conns) l.next ∙ none;
     }
 old_carried d (Some a) x p s waits e =
     let l = gone_learns d a x p e in
@@ -144,6 +151,8 @@ old_carried d (Some a) x p s waits e =
       opens = learned_live d (unblocked a d) p l (λ seat. refl);
       stops = learned_stops d (unblocked a d) p l;
       raises = learned_raises d (unblocked a d) p l;
+      ids = subst (λ (f : Desk). f.next_id ≤ d.next_id + 1) (sym l.next) (omega arith);
+      bare = λ old none. ap (λ (f : Desk). f.conns) l.next ∙ none;
     }
 
 -- ---- any
@@ -162,6 +171,26 @@ planned_plan g aim d w x p e = go (is_fresh w.member && (seeks_bus x && not (fin
     go : (b : Bool) → ◌≡◌ {A = Result Plan Refusal} (elim b [ true ↦ Err (NoSuchBus g) | false ↦ plan d w x ]) (Ok p) → plan d w x ≡ Ok p
     go true e = absurd cc
     go false e = e
+
+-- without a bus it isn't one that looks for it
+pub planned_stays : (g : ℕ) (aim : Option ℕ) (d : Desk) (w : Who) (x : Command) (p : Plan) → w.member ≡ who.Fresh → has_bus g ≡ false → planned g aim d w x ≡ Ok p → seeks_bus x ≡ false
+unfolding planned
+planned_stays g aim d w x p fresh dead e = go (seeks_bus x) refl
+  where
+    finds_none : (o : Option ℕ) → finds_bus g o ≡ false
+    finds_none None = dead
+    finds_none (Some a) = ap (λ b. b && a == g) dead
+
+    test : seeks_bus x ≡ true → (is_fresh w.member && (seeks_bus x && not (finds_bus g aim))) ≡ true
+    test q = ap (λ m. is_fresh m && (seeks_bus x && not (finds_bus g aim))) fresh ∙ (ap (λ b. b && not (finds_bus g aim)) q ∙ ap not (finds_none aim))
+
+    go : (b : Bool) → seeks_bus x ≡ b → seeks_bus x ≡ false
+    go false q = q
+    go true q = absurd (not_ok (subst (λ b. ◌≡◌ {A = Result Plan Refusal} (elim b [ true ↦ Err (NoSuchBus g) | false ↦ plan d w x ]) (Ok p)) (test q) e))
+
+pub plan_fresh : (d : Desk) (w : Who) (x : Command) (p : Plan) → w.member ≡ who.Fresh → plan d w x ≡ Ok p → from_fresh d w.creds x ≡ Ok p
+unfolding plan
+plan_fresh d w x p e h = subst (λ (m : WhoKind). plan d (record { creds = w.creds; member = m }) x ≡ Ok p) e h
 
 -- ---- who arrives took a free seat
 

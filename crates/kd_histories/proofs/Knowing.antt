@@ -1,6 +1,6 @@
 -- Along a fair and true list of the desk each sitter has its seat, and the pools that its entries
 -- leave open are those of the live connections.
-use Rattle.std.specs.Prelude.{◌≡◌, ◌≢◌, ◌⊎◌, ◌<◌, ℕ, ◌+◌, ◌==◌, ◌&&◌, ◌||◌, Bool, true, false, not, cond, List, [], ◌∷◌, ◌++◌, map, Option, Some, None, Result, Ok, Err, refl}
+use Rattle.std.specs.Prelude.{◌≡◌, ◌≢◌, ◌⊎◌, ◌<◌, ℕ, ◌+◌, ◌==◌, ◌&&◌, ◌||◌, Bool, true, false, not, cond, List, [], ◌∷◌, ◌++◌, map, Option, Some, None, Result, Ok, Err, refl, ◌≤◌}
 use Rattle.std.proofs.Common.{sym, ap, ◌∙◌, subst, eqb-true, eq-eqb, ne_eqb, inl, inr, ⊎_elim, arith}
 use Rattle.std.specs.List.{IsDistinct}
 use Rattle.std.proofs.lemmas.Bool.{false≢true}
@@ -26,13 +26,13 @@ use Rattle.kd_commands.specs.Step.{ended, ended_by, parts_in}
 use Rattle.kd_commands.specs.Visits.{first_ends, images_in, met, next_part, parts_visited, with_images}
 use Rattle.kd_commands.proofs.Seats.{free_has_none, free_is_unblocked}
 use Rattle.kd_histories.specs.Turns.{Left, Turn, left, started, removed, did, idle}
-use Rattle.kd_histories.specs.Slots.{AreTold, IsLeft, IsTold, Slot, desk_behind, left_end, next_odd, part_behind, parts_left, planned, slot_after, slot_from, unborn}
+use Rattle.kd_histories.specs.Slots.{AreTold, IsLeft, IsTold, Slot, desk_behind, left_end, next_odd, part_behind, parts_left, planned, slot_after, slot_from, unborn, has_bus}
 use Rattle.kd_histories.specs.Visits.{addressed, addressed_by, all_done, closings, visit_at, visits_at}
 use Rattle.kd_histories.specs.Seats.{AreFair, IsAt, IsFair, IsOlder, Move, Sitter, arrives, departs, move_of, moved, sitter, sitter_after, sitter_from, stays}
 use Rattle.kd_histories.specs.Known.{IsSeated, Knows, open_by}
 use Rattle.kd_histories.proofs.Snocs.{open_append}
-use Rattle.kd_histories.proofs.Waiting.{behind_seated, behind_unused, lived_behind, placed_either, waited_behind}
-use Rattle.kd_histories.proofs.Carried.{Carried, IsAwaited, IsAway, carried, now_free, planned_plan}
+use Rattle.kd_histories.proofs.Waiting.{behind_seated, behind_unused, lived_behind, placed_either, waited_behind, fresh_bare}
+use Rattle.kd_histories.proofs.Carried.{Carried, IsAwaited, IsAway, carried, now_free, planned_plan, plan_fresh, planned_stays}
 
 -- ---- the visits of a seat open and close its pool as all visits do
 
@@ -324,6 +324,41 @@ module _ (s : Slot) (k : Seats) (up : Ups) (j : ℕ) (l : Left) (w : Knows s k u
       go (Err why) e = inl (becomes_refused why e)
       go (Ok p) e = ends p e (first_ends p.parts l.outs) refl
 
+  -- the desk then is as it was, or the plan's
+  next_either : ((left_end s l).next ≡ s.desk) ⊎ ((p : Plan) × (plans ≡ Ok p) × ((left_end s l).next ≡ p.next))
+  unfolding left_end
+  next_either = go plans refl
+    where
+      ends : (p : Plan) → plans ≡ Ok p → (o : Option Refusal) → first_ends p.parts l.outs ≡ o → ((ended_by s.desk l.who plans l.outs).next ≡ s.desk) ⊎ ((p : Plan) × (plans ≡ Ok p) × ((ended_by s.desk l.who plans l.outs).next ≡ p.next))
+      ends p e (Some why) f = inl (subst (λ r. (ended_by s.desk l.who r l.outs).next ≡ s.desk) (sym e) (subst (λ o. (ended s.desk l.who p o).next ≡ s.desk) (sym f) refl))
+      ends p e None f = inr (p, e, subst (λ r. (ended_by s.desk l.who r l.outs).next ≡ p.next) (sym e) (subst (λ o. (ended s.desk l.who p o).next ≡ p.next) (sym f) refl))
+
+      go : (r : Result Plan Refusal) → plans ≡ r → ((ended_by s.desk l.who plans l.outs).next ≡ s.desk) ⊎ ((p : Plan) × (plans ≡ Ok p) × ((ended_by s.desk l.who plans l.outs).next ≡ p.next))
+      go (Err why) e = inl (subst (λ r. (ended_by s.desk l.who r l.outs).next ≡ s.desk) (sym e) refl)
+      go (Ok p) e = ends p e (first_ends p.parts l.outs) refl
+
+  -- it gives at most one id
+  pub left_ids : (left_end s l).next.next_id ≤ s.desk.next_id + 1
+  left_ids = ⊎_elim
+      (λ same. subst (λ (d : Desk). d.next_id ≤ s.desk.next_id + 1) (sym same) (omega arith))
+      (λ x. subst (λ (d : Desk). d.next_id ≤ s.desk.next_id + 1) (sym x.2) (it x.0 x.1).ids)
+      next_either
+
+  -- and without a bus nobody becomes a connection
+  pub left_bare : has_bus s.generation ≡ false → s.desk.conns ≡ [] → (left_end s l).next.conns ≡ []
+  left_bare dead bare = ⊎_elim
+      (λ same. ap (λ (d : Desk). d.conns) same ∙ bare)
+      (λ x. ap (λ (d : Desk). d.conns) x.2 ∙ planned_bare x.0 x.1 l.who.member refl)
+      next_either
+    where
+      planned_bare : (p : Plan) → plans ≡ Ok p → (m : WhoKind) → l.who.member ≡ m → p.next.conns ≡ []
+      planned_bare p e who.Fresh q =
+          fresh_bare s.desk l.who.creds l.command p (planned_stays s.generation l.aim s.desk l.who l.command p q dead e)
+          (plan_fresh s.desk l.who l.command p q (planned_plan s.generation l.aim s.desk l.who l.command p e)) ∙ bare
+      planned_bare p e (who.Conn id c) q = (it p e).bare (λ z. let no : who.Conn id c ≡ who.Fresh = sym q ∙ z in cc) bare
+      planned_bare p e (who.Keeper x) q = (it p e).bare (λ z. let no : who.Keeper x ≡ who.Fresh = sym q ∙ z in cc) bare
+      planned_bare p e (who.Old o) q = (it p e).bare (λ z. let no : who.Old o ≡ who.Fresh = sym q ∙ z in cc) bare
+
   -- who moves was carried out
   never : (m : Move) → (m ≡ stays → ⊥) → moved l.generation l.who.member l.becomes ≡ m → l.becomes ≡ l.who.member → ⊥
   never m isnt e same = isnt (sym e ∙ (ap (moved l.generation l.who.member) same ∙ moved_same l.generation l.who.member))
@@ -410,7 +445,7 @@ knows_along s k up (x ∷ xs) w all fair =
     (λ c. sym (open_append (addressed_by c s t) (addressed c s' xs) (up c)))
     (knows_along s' k'' (λ c. open_by (addressed_by c s t) (up c)) xs one all.1 (λ c. (fair c).1))
 
-unborn_knows : Knows unborn (λ c. None) (λ c. false)
+pub unborn_knows : Knows unborn (λ c. None) (λ c. false)
 unfolding opening_desk IsDistinct
 unborn_knows = record {
   seated = record { old_ids = tt; own_ids = tt; few_seats = tt; own_seats = tt; unblocked = tt };

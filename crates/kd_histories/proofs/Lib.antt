@@ -5,6 +5,7 @@ pub mod Going
 pub mod Holds
 pub mod Knowing
 pub mod Marks
+pub mod Numbers
 pub mod Owing
 pub mod Owners
 pub mod Puts

@@ -1,7 +1,7 @@
 -- Seats that wait for their own callers, through plans and through new buses.
-use Rattle.std.specs.Prelude.{◌≡◌, ◌≢◌, ◌<◌, ◌⊎◌, ℕ, ◌==◌, ◌&&◌, ◌||◌, Bool, true, false, cond, not, List, [], ◌∷◌, ◌++◌, map, Option, Some, None, Result, Ok, refl}
+use Rattle.std.specs.Prelude.{◌≡◌, ◌≢◌, ◌<◌, ◌⊎◌, ℕ, ◌==◌, ◌&&◌, ◌||◌, Bool, true, false, cond, not, List, [], ◌∷◌, ◌++◌, map, Option, Some, None, Result, Ok, refl, ◌≤◌, ◌+◌}
 use Rattle.std.specs.List.{IsDistinct}
-use Rattle.std.proofs.Common.{sym, ap, ◌∙◌, subst, eqb-true, eq-eqb, ne_eqb, inl, inr}
+use Rattle.std.proofs.Common.{sym, ap, ◌∙◌, subst, eqb-true, eq-eqb, ne_eqb, inl, inr, arith}
 use Rattle.std.proofs.lemmas.Bool.{false≢true}
 use Rattle.std.proofs.lemmas.List.Folds.{list_any-append}
 use Rattle.std.proofs.lemmas.Map.Views.{any-filter_same}
@@ -19,12 +19,13 @@ use Rattle.kd_commands.specs.State.{Desk, conn_of, has_id, has_seat, opening_des
 use Rattle.kd_commands.specs.Leaving.{on_endpoint}
 use Rattle.kd_commands.specs.Plans.{Plan}
 use Rattle.kd_commands.specs.Seating.{AreSeated, IsElsewhere, IsPlaced, is_live}
-use Rattle.kd_commands.specs.Step.{from_gone, from_old_keeper}
+use Rattle.kd_commands.specs.Step.{from_gone, from_old_keeper, from_fresh}
 use Rattle.kd_commands.proofs.Finds.{none_pass, passes_none}
-use Rattle.kd_commands.proofs.Members.{seats_of, turned}
+use Rattle.kd_commands.proofs.Members.{seats_of, turned, without}
 use Rattle.kd_commands.proofs.Moves.{Moves, arrives, ends, learns, leaves, stays}
 use Rattle.kd_commands.proofs.SeatSets.{in_set}
-use Rattle.kd_histories.specs.Slots.{desk_behind}
+use Rattle.kd_histories.specs.Slots.{desk_behind, seeks_bus}
+use Rattle.kd_types.specs.declared.creds.Creds.{Creds}
 
 -- ---- a seat that waits
 
@@ -52,6 +53,35 @@ waits_through d m p c low (ends t) away waits =
     ∙ (in_set c (d.blocked ++ more) low ∙ (list_any-append (λ n. c == n) d.blocked more ∙ ap (λ b. b || contains c more) waits))
 waits_through d m p c low (learns t) away waits =
     ap (contains c) t.blocked ∙ (waits_still c t.seat d.blocked (subst (IsElsewhere c) t.was away) ∙ waits)
+
+-- ---- ids and connections, through any plan
+
+ok_same : (p q : Plan) → ◌≡◌ {A = Result Plan Refusal} (Ok p) (Ok q) → p ≡ q
+ok_same p q e = cc
+
+-- at most one id is given
+pub ids_through : (d : Desk) (m : WhoKind) (p : Plan) → Moves d m p → p.next.next_id ≤ d.next_id + 1
+ids_through d m p (stays t) = let e = t.next_id in omega (arith, e)
+ids_through d m p (arrives t) = let e = t.next_id in omega (arith, e)
+ids_through d m p (leaves t) = let e = t.next_id in omega (arith, e)
+ids_through d m p (ends t) = let e = t.next_id in omega (arith, e)
+ids_through d m p (learns t) = let e = t.next_id in omega (arith, e)
+
+-- only who was nothing becomes a connection
+pub bare_through : (d : Desk) (m : WhoKind) (p : Plan) → Moves d m p → (m ≡ who.Fresh → ⊥) → d.conns ≡ [] → p.next.conns ≡ []
+bare_through d m p (stays t) old bare = t.conns ∙ bare
+bare_through d m p (arrives t) old bare = absurd (old t.was)
+bare_through d m p (leaves t) old bare = t.conns ∙ ap (without (t.one ∷ [])) bare
+bare_through d m p (ends t) old bare = t.conns ∙ ap (without (on_endpoint d t.endpoint)) bare
+bare_through d m p (learns t) old bare = t.conns ∙ bare
+
+-- and it does so by a HELLO
+pub fresh_bare : (d : Desk) (creds : Creds) (x : Command) (p : Plan) → seeks_bus x ≡ false → from_fresh d creds x ≡ Ok p → p.next.conns ≡ d.conns
+fresh_bare d creds (cmd.Hello flags size send_mask receive_mask is) p off e = let no : true ≡ false = off in absurd cc
+fresh_bare d creds (cmd.EndpointMake is) p off e = let no : true ≡ false = off in absurd cc
+fresh_bare d creds (cmd.Enter new) p off e = ap (λ (q : Plan). q.next.conns) (sym (ok_same _ p e))
+fresh_bare d creds cmd.Close p off e = ap (λ (q : Plan). q.next.conns) (sym (ok_same _ p e))
+fresh_bare d creds x p off e = absurd cc
 
 -- ---- a caller of another bus learns that its seat is free
 
@@ -82,9 +112,6 @@ pub record Learned (d d' : Desk) (p : Plan) : Type 0 where
   pub parts : p.parts ≡ []
   pub next : p.next ≡ d'
   pub becomes : p.becomes ≡ who.Fresh
-
-ok_same : (p q : Plan) → ◌≡◌ {A = Result Plan Refusal} (Ok p) (Ok q) → p ≡ q
-ok_same p q e = cc
 
 learned_by : (d d' : Desk) (q p : Plan) → ◌≡◌ {A = Result Plan Refusal} (Ok q) (Ok p) → Learned d d' q → Learned d d' p
 learned_by d d' q p e l = subst (Learned d d') (ok_same q p e) l

@@ -1,6 +1,6 @@
 -- What the desk's list says of seats, once its entries are true and come from the passes that have
 -- their seats.
-use Rattle.std.specs.Prelude.{◌≡◌, ◌≢◌, ◌<◌, ◌≤◌, ℕ, suc, Bool, true, false, List, [], ◌∷◌, Option, Some, None}
+use Rattle.std.specs.Prelude.{◌≡◌, ◌≢◌, ◌<◌, ◌≤◌, ℕ, suc, Bool, true, false, List, [], ◌∷◌, Option, Some, None, ◌+◌, length}
 use Rattle.kd_types.specs.declared.creds.Kind.{Kind}
 use Rattle.kd_model.specs.Words.{contains}
 use Rattle.kd_acts.specs.State.{Answer, Visit, by_desk}
@@ -8,7 +8,7 @@ use Rattle.kd_acts.specs.Lasting.{is_open, open_after}
 use Rattle.kd_commands.specs.Seating.{AreSeated, IsPlaced, is_live}
 use Rattle.kd_hands.specs.Locks.{Histories}
 use Rattle.kd_histories.specs.Turns.{Turn}
-use Rattle.kd_histories.specs.Slots.{AreTold, Slot, slot_of, unborn}
+use Rattle.kd_histories.specs.Slots.{AreTold, Slot, slot_of, unborn, has_bus}
 use Rattle.kd_histories.specs.Visits.{addressed, visits_made}
 use Rattle.kd_histories.specs.Seats.{AreFair, Sitter, sitter}
 use Rattle.kd_histories.specs.Pools.{hold_of}
@@ -39,6 +39,18 @@ abbrev pub ListsKnow : Type 0
 ListsKnow =
     (list : List (ℕ × Turn)) → AreTold unborn list → ((c : ℕ) → AreFair c None list)
     → Knows (slot_of list) (λ c. sitter c list) (λ c. open_by (addressed c unborn list) false)
+
+-- the next id is at most one more than the list has entries
+abbrev pub IdsAreFew : Type 0
+IdsAreFew =
+    (list : List (ℕ × Turn)) → AreTold unborn list → ((c : ℕ) → AreFair c None list)
+    → (slot_of list).desk.next_id ≤ length list + 1
+
+-- and without a bus nobody is a connection
+abbrev pub NobodyWithoutBus : Type 0
+NobodyWithoutBus =
+    (list : List (ℕ × Turn)) → AreTold unborn list → ((c : ℕ) → AreFair c None list)
+    → has_bus (slot_of list).generation ≡ false → (slot_of list).desk.conns ≡ []
 
 -- ---- whenever nobody holds the desk
 

@@ -5,7 +5,7 @@ ghost use Rattle.kd_histories.specs.Seats.{OwnEntriesTell};
 ghost use Rattle.kd_histories.specs.Pools.{SweepsTell};
 ghost use Rattle.kd_histories.specs.Pairs.{OwedIsDue};
 ghost use Rattle.kd_histories.specs.Tie.{Tie, no_entry};
-ghost use Rattle.kd_histories.specs.Known.{ExactlyAddressed, ListsKnow, OpenAreLive};
+ghost use Rattle.kd_histories.specs.Known.{ExactlyAddressed, IdsAreFew, ListsKnow, NobodyWithoutBus, OpenAreLive};
 ghost use Rattle.kd_histories.specs.Puts.{CallersAreOwn, IdleDesksMayBePut, IdlesMayBePut, LeavesMayBePut, PublishesMayBePut, RaisesWhereNobodySits, ReadsMayBePut, ReceivesMayBePut, RemovesMayBePut, StartsMayBePut, VisitsMayBePut};
 
 /// The tie holds before any entry.
@@ -35,6 +35,16 @@ pub fn own_entries_tell_the_seat()
 #[tactic(auto, using(crate::proofs::Knowing::lists_know))]
 pub fn lists_know_who_sits()
     ensures { ListsKnow }
+{}
+
+/// The next id is at most one more than the desk's list has entries.
+pub fn ids_are_as_few_as_entries()
+    ensures { IdsAreFew }
+{}
+
+/// A slot without a bus has no connection.
+pub fn nobody_is_a_connection_without_a_bus()
+    ensures { NobodyWithoutBus }
 {}
 
 /// Whenever nobody holds the desk, the open pools are those of the live connections.
