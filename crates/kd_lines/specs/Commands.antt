@@ -1,5 +1,5 @@
 -- A command as a line.
-use Rattle.std.specs.Prelude.{ℕ, ℤ, Bool, ◌==◌, if◌then◌else◌, List, [], ◌∷◌, ◌++◌, codes, decimal}
+use Rattle.std.specs.Prelude.{ℕ, ℤ, ◌==◌, if◌then◌else◌, List, [], ◌++◌, codes, decimal}
 use Rattle.std.specs.List.{flat_map}
 use Rattle.kd_wire.specs.declared.opcode.Opcode.{Opcode}
 use Rattle.kd_wire.specs.declared.opcode.Opcode.TheVariants as opcodes

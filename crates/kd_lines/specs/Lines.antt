@@ -29,7 +29,8 @@ refused_line frame why =
 
 abbrev pub IsRefusedLine : List ℕ → List ℕ → Type 0
 IsRefusedLine frame line =
-    (why : Refusal) × (refusal_of (port_of frame) frame ≡ Some why) × (line ≡ refused_line frame why)
+    (why : Refusal) × (refusal_of (port_of frame) frame ≡ Some why)
+    × (line ≡ refused_line frame why)
 
 -- a frame is the one spelling of this caller's command
 pub record IsSpelling (frame : List ℕ) (caller : ℕ) (command : Command) : Type 0 where

@@ -28,7 +28,8 @@ abbrev pub joined : List (List ℕ) → List ℕ
 joined pieces = flat_map (λ piece. piece) pieces
 
 -- the bytes are these parts, each of which is one, and a rest
-pub record IsCut (IsOne : List ℕ → Type 0) (bytes : List ℕ) (parts : List (List ℕ)) (rest : List ℕ) : Type 0 where
+pub record IsCut (IsOne : List ℕ → Type 0) (bytes : List ℕ) (parts : List (List ℕ))
+    (rest : List ℕ) : Type 0 where
   pub whole : bytes ≡ joined parts ++ rest
   pub each : AllByRecursion IsOne parts
 

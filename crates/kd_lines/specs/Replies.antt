@@ -1,5 +1,5 @@
 -- A reply as a line.
-use Rattle.std.specs.Prelude.{ℕ, Bool, if◌then◌else◌, List, [], ◌∷◌, ◌++◌, codes, Result, Ok, Err}
+use Rattle.std.specs.Prelude.{ℕ, if◌then◌else◌, List, [], ◌++◌, codes, Result, Ok, Err}
 use Rattle.std.specs.List.{flat_map}
 use Rattle.kd_types.specs.declared.reply_error.ReplyError.{ReplyError}
 use Rattle.kd_types.specs.declared.reply_error.ReplyError.TheVariants.{Bad, OutOfMemory}
@@ -28,7 +28,8 @@ answer_text (Recv number offset size dropped) =
     codes " ok" ++ field (codes "slice") number ++ field (codes "offset") offset
     ++ field (codes "length") size ++ field (codes "dropped") dropped
 answer_text (Read bytes) = codes " ok" ++ slice_text bytes
-answer_text (NameAcquire queued) = codes " ok" ++ (if queued then codes " queued" else codes " owned")
+answer_text (NameAcquire queued) =
+    codes " ok" ++ (if queued then codes " queued" else codes " owned")
 answer_text (NameList listed) = codes " ok" ++ flat_map listed_text listed
 answer_text (Tick moment) = codes " ok" ++ field (codes "moment") moment
 answer_text (Seal number) = codes " ok" ++ field (codes "seal") number
@@ -42,7 +43,8 @@ head_text bytes = start_text (caller_word bytes) (number_name (command_word byte
 -- a reply, or the place that breaks its format and its bytes
 abbrev pub reply_text : List ℕ → Result Reply ReplyError → List ℕ
 reply_text bytes (Ok reply) = answer_text reply
-reply_text bytes (Err (Bad at)) = codes " broken" ++ field (codes "at") at ++ codes " FRAME" ++ text bytes
+reply_text bytes (Err (Bad at)) =
+    codes " broken" ++ field (codes "at") at ++ codes " FRAME" ++ text bytes
 reply_text bytes (Err OutOfMemory) = []
 
 abbrev pub reply_line : List ℕ → List ℕ

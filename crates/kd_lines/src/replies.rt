@@ -96,7 +96,8 @@ pub(crate) fn put_head(out: &mut Vec<u8>, bytes: &[u8]) -> Result<(), AllocError
 
 /// The place that breaks a reply's format, and its bytes.
 fn put_broken(out: &mut Vec<u8>, at: u64, bytes: &[u8]) -> Result<(), AllocError>
-    ensures { OnOk result (out.new.items ≡ out.old.items ++ reply_text bytes.now (Err (ReplyError.Bad at))) }
+    ensures { OnOk result (out.new.items
+        ≡ out.old.items ++ reply_text bytes.now (Err (ReplyError.Bad at))) }
 {
     put_text(out, " broken")?;
     put_field(out, "at", at)?;
@@ -106,7 +107,8 @@ fn put_broken(out: &mut Vec<u8>, at: u64, bytes: &[u8]) -> Result<(), AllocError
 
 /// What stands behind the head of a reply.
 fn put_reply(out: &mut Vec<u8>, alloc: Global, bytes: &[u8]) -> Result<(), AllocError>
-    ensures { OnOk result (out.new.items ≡ out.old.items ++ reply_text bytes.now (reply_in bytes.now)) }
+    ensures { OnOk result (out.new.items
+        ≡ out.old.items ++ reply_text bytes.now (reply_in bytes.now)) }
 {
     match read_reply(alloc, bytes) {
         Ok((_, reply)) => put_answer(out, alloc, &reply),

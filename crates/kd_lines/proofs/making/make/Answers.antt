@@ -1,6 +1,5 @@
-use Rattle.std.proofs.Common.{◌≡◌, ℕ, List, [], take, refl, sym, subst, ◌∙◌}
+use Rattle.std.proofs.Common.{ℕ, List, subst, ◌∙◌}
 use Rattle.std.proofs.lemmas.List.{length-take-le}
-use Rattle.kd_lines.specs.Pieces.{IsCut}
 use Rattle.kd_lines.specs.Making.{IsOneLine, IsMade}
 use Rattle.kd_lines.proofs.Written.{all_written, some_written, one_more}
 use Rattle.kd_lines.proofs.making.make.Goals as goal

@@ -1,5 +1,5 @@
-use Rattle.std.proofs.Common.{◌≡◌, ◌<◌, ◌≤◌, length, rules, sym, arith}
-use Rattle.kd_lines.specs.Making.{line_length, IsOneLine}
+use Rattle.std.proofs.Common.{◌≡◌, ◌<◌, length, rules, arith}
+use Rattle.kd_lines.specs.Making.{line_length}
 use Rattle.kd_lines.proofs.OneLine.{line_within, line_some, front_line}
 use Rattle.kd_lines.proofs.tokens.line_size.Goals as goal
 
