@@ -38,7 +38,7 @@ fn publish(
     if pool.published() >= 1_000_000 {
         return Ok(None);
     }
-    let message = vec![in alloc; number as u8; len as usize]?;
+    let message = vec![in alloc; (number % 256) as u8; len as usize]?;
     pool.publish(SliceNo(number), &[], &message, priority);
     Ok(Some(len))
 }
