@@ -1,0 +1,2 @@
+-- What a reader has to believe: when an example agrees.
+pub mod Examples
