@@ -33,7 +33,10 @@ pub fn makes(alloc: Global, lines: &[u8], frames: &[u8]) -> Result<bool, AllocEr
 {
     let mut sink = empty_sink(alloc)?;
     let end = make(alloc, lines, &mut sink);
-    Ok(end == End::Done && sink.held() == frames)
+    if end != End::Done {
+        return Ok(false);
+    }
+    Ok(sink.held() == frames)
 }
 
 /// Whether a bus answers the frames so.
@@ -43,7 +46,10 @@ pub fn answers(alloc: Global, frames: &[u8], replies: &[u8]) -> Result<bool, All
 {
     let mut sink = empty_sink(alloc)?;
     let end = replay_frames(alloc, frames, &mut sink);
-    Ok(end == Status::Done && sink.held() == replies)
+    if end != Status::Done {
+        return Ok(false);
+    }
+    Ok(sink.held() == replies)
 }
 
 /// Whether the replies are told in these lines.
@@ -53,5 +59,8 @@ pub fn tells(alloc: Global, replies: &[u8], told: &[u8]) -> Result<bool, AllocEr
 {
     let mut sink = empty_sink(alloc)?;
     let end = show(alloc, Kind::Replies, replies, &mut sink);
-    Ok(end == End::Done && sink.held() == told)
+    if end != End::Done {
+        return Ok(false);
+    }
+    Ok(sink.held() == told)
 }
