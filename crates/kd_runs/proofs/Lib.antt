@@ -1,0 +1,5 @@
+pub mod Home
+pub mod Left
+pub mod Lists
+pub mod Pools
+pub mod Publishing
