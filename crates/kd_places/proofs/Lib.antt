@@ -1,0 +1,6 @@
+pub mod Units
+pub mod Says
+pub mod Before
+pub mod Lines
+pub mod Here
+pub mod Places
