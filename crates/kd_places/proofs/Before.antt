@@ -96,11 +96,18 @@ module _ (bytes : List ℕ) (fits : IsBytes bytes) (long : 8 ≤ length bytes) (
   Begins at = (n : ℕ) × BeginReply bytes n at
 
   made : (n at c k : ℕ) (r : Reply) (rest : List ℕ) → CanBeSaid c k r → drop 8 bytes ≡ front n c k r ++ rest → at ≡ 8 + length (front n c k r) → Begins at
-  made n at c k r rest said is place = (n, record {
-    command = c; caller = k; reply = r; said = said; rest = rest;
-    spelled = size_front ∙ ap (λ (l : List ℕ). word (length bytes) ++ l) is;
-    ends = place;
-  })
+  made n at c k r rest said is place = (
+    n,
+    record {
+      command = c;
+      caller = k;
+      reply = r;
+      said = said;
+      rest = rest;
+      spelled = size_front ∙ ap (λ (l : List ℕ). word (length bytes) ++ l) is;
+      ends = place;
+    },
+  )
 
   abbrev c : ℕ
   c = command_word bytes

@@ -4,3 +4,5 @@ pub mod Before
 pub mod Lines
 pub mod Here
 pub mod Places
+pub mod Items
+pub mod Payloads

@@ -1,5 +1,6 @@
 //! Where bytes break a format. Nothing is run here; each function's contract is a law.
 
+ghost use Rattle.kd_places.specs.Images.{ItemPlacesAreTrue, PayloadPlacesAreTrue};
 ghost use Rattle.kd_places.specs.Replies.{ReplyPlacesAreOne, ReplyPlacesAreTrue, UnitsMakeReplies};
 
 /// A reply is its size word and its units.
@@ -16,4 +17,16 @@ pub fn reply_places_are_true()
 /// Bytes have one such place at most.
 pub fn reply_places_are_one()
     ensures { ReplyPlacesAreOne }
+{}
+
+/// The place that the reading of a message's items answers is behind the longest beginning of them
+/// that tells something, in the order of the format.
+pub fn item_places_are_true()
+    ensures { ItemPlacesAreTrue }
+{}
+
+/// The place that the reading of its payloads answers is behind the payloads that are there whole,
+/// each with its zeros.
+pub fn payload_places_are_true()
+    ensures { PayloadPlacesAreTrue }
 {}
