@@ -1,0 +1,15 @@
+-- One field of one node changes.
+use Rattle.std.proofs.Common.{arith, refl}
+use Rattle.std.proofs.lemmas.List.{map-set}
+use Rattle.kd_order.proofs.Writes.{same_under}
+use Rattle.kd_order.specs.declared.node.Node.{Node}
+use Rattle.kd_order.proofs.node.set_next.Goals as goal
+
+pub returns-clause-nexts : goal.returns-clause-nexts
+returns-clause-nexts c = map-set (λ (n : Node). n.next) c.args.nodes.now.items c.args.number _
+
+pub returns-clause-previous : goal.returns-clause-previous
+returns-clause-previous c = same_under (λ (n : Node). n.previous) c.args.nodes.now.items c.args.number c.index_mut.result.now _ (omega (arith, c.args.nodes.now.ok.0)) c.index_mut.ensures.value refl
+
+pub returns-clause-priorities : goal.returns-clause-priorities
+returns-clause-priorities c = same_under (λ (n : Node). n.priority) c.args.nodes.now.items c.args.number c.index_mut.result.now _ (omega (arith, c.args.nodes.now.ok.0)) c.index_mut.ensures.value refl

@@ -1,0 +1,4 @@
+pub mod Linked
+pub mod Rings
+pub mod Pairs
+pub mod Ends

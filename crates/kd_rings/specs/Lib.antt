@@ -1,0 +1,2 @@
+-- what a ring of numbers is
+pub mod Rings
