@@ -1,10 +1,10 @@
 -- The slices in a chain, with one more and without one.
-use Rattle.std.specs.Prelude.{◌≡◌, ◌≢◌, ◌<◌, ◌≤◌, ◌+◌, ◌-◌, ◌%◌, ◌^◌, ◌==◌, ◌||◌, ◌⊎◌, ℕ, Bool, true, false, not, List, [], ◌∷◌, None, Some, length, map, nat_eq, nat_lt, cond, is_some, option_map, refl, replicate, slice_index_or, sum_by}
+use Rattle.std.specs.Prelude.{◌≡◌, ◌≢◌, ◌<◌, ◌≤◌, ◌+◌, ◌%◌, ◌^◌, ◌==◌, ◌||◌, ◌⊎◌, ℕ, Bool, true, false, not, List, [], ◌∷◌, None, Some, length, map, nat_eq, nat_lt, cond, is_some, option_map, refl, slice_index_or, sum_by}
 use Rattle.std.specs.List.{AllByRecursion, IsDistinct, find, list_any}
-use Rattle.std.proofs.Common.{ap, arith, inl, inr, set, sym, ◌∙◌, suc, zero}
+use Rattle.std.proofs.Common.{ap, arith, inl, inr, set, sym, ◌∙◌}
 use Rattle.std.proofs.lemmas.Bool.{true≢false}
 use Rattle.std.proofs.lemmas.Bool.Decides.{nat_tests}
-use Rattle.std.proofs.lemmas.List.{get_or-set_same, get_or-set_other, length-replicate, length-set}
+use Rattle.std.proofs.lemmas.List.{get_or-set_same, get_or-set_other, length-set}
 use Rattle.std.proofs.lemmas.List.Sums.{sum_by-cons}
 use Rattle.kd_model.proofs.Least.{all_of_least}
 use Rattle.kd_model.proofs.Lists.{all_follow, all_under, map_of_filter}
@@ -14,12 +14,14 @@ use Rattle.kd_model.specs.Words.{but_those, contains, put_in_order, some_of}
 use Rattle.kd_model.specs.declared.placed.Gap.{Gap}
 use Rattle.kd_model.specs.declared.placed.Placed.{Placed}
 use Rattle.kd_model.specs.declared.slice_no.TheConstants.{SLICES}
-use Rattle.kd_links.specs.Chains.{AllBut, Apart, Chained, no_span, put_behind}
+use Rattle.kd_rings.specs.Rings.{AllBut, Apart, put_behind}
+use Rattle.kd_links.specs.Chains.{Chained, no_span}
 use Rattle.kd_links.specs.Kept.{IsBehind, IsKept, chain_book, slice_of, slices_of}
 use Rattle.kd_links.specs.declared.node.Span.{Span}
-use Rattle.kd_links.specs.declared.node.TheConstants.{GAPS, NODES, START}
-use Rattle.kd_links.proofs.Linked.{all_but, differ, equal, itself, not_in, without}
-use Rattle.kd_links.proofs.Rings.{holds_in, later, later_in}
+use Rattle.kd_rings.specs.declared.heads.TheConstants.{START}
+use Rattle.kd_links.specs.declared.node.TheConstants.{GAPS, NODES}
+use Rattle.kd_rings.proofs.Linked.{all_but, differ, equal, itself, not_in, without}
+use Rattle.kd_rings.proofs.Rings.{holds_in, later, later_in}
 
 -- ---- what the slices in order tell of the numbers
 

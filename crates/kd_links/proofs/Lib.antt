@@ -1,7 +1,4 @@
 pub mod Writes
-pub mod Linked
-pub mod Rings
-pub mod Pairs
 pub mod Made
 pub mod Books
 pub mod Filed

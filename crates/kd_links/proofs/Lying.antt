@@ -1,24 +1,27 @@
 -- The gaps that nodes have are those of the book, and stay so with one slice more or less.
-use Rattle.std.specs.Prelude.{◌≡◌, ◌≢◌, ◌<◌, ◌≤◌, ◌+◌, ◌-◌, ◌⊎◌, ◌&&◌, ◌||◌, ℕ, Bool, true, false, not, List, [], ◌∷◌, ◌++◌, Option, Some, None, cond, filter, length, map, nat_eq, nat_le, nat_lt, option_map, refl, slice_index_or}
+use Rattle.std.specs.Prelude.{◌≡◌, ◌≢◌, ◌<◌, ◌≤◌, ◌+◌, ◌-◌, ◌||◌, ℕ, Bool, true, false, not, List, [], ◌∷◌, ◌++◌, Option, Some, None, cond, filter, map, nat_eq, nat_le, nat_lt, refl}
 use Rattle.std.specs.List.{AllByRecursion, find}
-use Rattle.std.proofs.Common.{ap, arith, inl, inr, set, sym, ◌∙◌, subst}
+use Rattle.std.proofs.Common.{ap, arith, inl, inr, sym, ◌∙◌, subst}
 use Rattle.std.proofs.lemmas.Bool.{true≢false}
 use Rattle.std.proofs.lemmas.Bool.Decides.{nat_tests}
 use Rattle.kd_model.proofs.Least.{all_of_least}
-use Rattle.kd_model.proofs.Lists.{all_follow, all_of_append, all_of_filter, found_passes}
+use Rattle.kd_model.proofs.Lists.{all_follow, all_of_append, found_passes}
 use Rattle.kd_model.specs.Slices.{AreInOrder, best_gap, between, gaps, gaps_from, is_better, slice_end}
 use Rattle.kd_model.specs.Words.{AnyOf, contains, least, those}
 use Rattle.kd_model.specs.declared.placed.Gap.{Gap}
 use Rattle.kd_model.specs.declared.placed.Placed.{Placed}
 use Rattle.kd_model.specs.declared.slice_no.TheConstants.{SLICES}
-use Rattle.kd_links.specs.Chains.{AllBut, Apart, Chained, before, put_behind}
+use Rattle.kd_rings.specs.Rings.{AllBut, Apart, before, put_behind}
+use Rattle.kd_links.specs.Chains.{Chained}
 use Rattle.kd_links.specs.Filed.{AreBehind, IsFiled, Rising, first_fit, fits, lying, no_gap, rank}
-use Rattle.kd_links.specs.Kept.{IsBehind, IsBinned, IsKept, chain_book, slice_of, slices_of}
-use Rattle.kd_links.specs.declared.node.TheConstants.{GAPS, HEAD, MARKS, START}
+use Rattle.kd_links.specs.Kept.{IsBinned, IsKept, chain_book, slice_of, slices_of}
+use Rattle.kd_rings.specs.declared.heads.TheConstants.{START}
+use Rattle.kd_links.specs.declared.node.TheConstants.{GAPS, MARKS}
 use Rattle.kd_links.proofs.Books.{numbers_below}
 use Rattle.kd_links.proofs.Filed.{not_itself}
-use Rattle.kd_links.proofs.Linked.{all_stay, differ, equal, itself, not_in, tested, without}
-use Rattle.kd_links.proofs.Rings.{holds_in, later, later_in}
+use Rattle.kd_rings.proofs.Linked.{all_stay, differ, equal, itself, without}
+use Rattle.kd_rings.proofs.Ends.{before_among}
+use Rattle.kd_rings.proofs.Rings.{holds_in, later, later_in}
 use Rattle.kd_slices.proofs.Walks.{ends_within}
 
 -- ---- gaps and nodes
@@ -313,15 +316,6 @@ pub record AreOut (r r' : ℕ → Gap) (f f' : ℕ → Placed) (p n : ℕ) : Typ
   pub whole : r' (GAPS + p) ≡ lying ((f n).offset - (r (GAPS + p)).len) (slice_end (f n) + (r (GAPS + n)).len)
   pub others : (k : ℕ) → k ≢ p → k ≢ n → r' (GAPS + k) ≡ r (GAPS + k)
   pub slices : (k : ℕ) → k ≤ START → k ≢ n → f' k ≡ f k
-
--- the number before another is the first one or one of those before it
-pub before_among : (n e : ℕ) (xs : List ℕ) → contains n xs ≡ true → contains (before n e xs) (e ∷ xs) ≡ true
-before_among n e [] h = absurd (true≢false (sym h))
-before_among n e (x ∷ xs) h = go (before_among n x xs) (nat_eq x n) refl
-  where
-    go : (contains n xs ≡ true → contains (before n x xs) (x ∷ xs) ≡ true) → (t : Bool) → nat_eq x n ≡ t → contains (elim t [ true ↦ e | false ↦ before n x xs ]) (e ∷ x ∷ xs) ≡ true
-    go more true q = rw (itself e) refl
-    go more false q = let other : nat_eq n x ≡ false = grind (arith, nat_tests) in later_in (before n x xs) e (x ∷ xs) (more (rw other at h))
 
 -- what lies beside each slice stays within the pool
 pub beside : (r : ℕ → Gap) (f : ℕ → Placed) (size at n e : ℕ) (xs : List ℕ) → AreBehind r f size at e xs → AreInOrder at size (map f xs) → contains n xs ≡ true → ((r (GAPS + before n e xs)).len ≤ (f n).offset) × (slice_end (f n) + (r (GAPS + n)).len ≤ size)

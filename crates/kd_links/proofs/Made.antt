@@ -1,10 +1,11 @@
 -- Nodes that all name the start, but for the head, which names itself, make two rings of no numbers.
 use Rattle.std.specs.Prelude.{◌≡◌, ◌≢◌, ◌<◌, ℕ, List, [], length, map, replicate, slice_index, zero, suc}
-use Rattle.std.proofs.Common.{ap, arith, refl, set, sym, ◌∙◌, ◌∷◌}
+use Rattle.std.proofs.Common.{ap, arith, refl, set, ◌∙◌, ◌∷◌}
 use Rattle.std.proofs.lemmas.List.{get_or-replicate, get_or-set_same, get_or-set_other, length-replicate, length-set}
-use Rattle.kd_links.specs.Chains.{AreRings, order}
-use Rattle.kd_links.specs.declared.node.TheConstants.{HEAD, NODES, START}
-use Rattle.kd_links.proofs.Rings.{ring_alone}
+use Rattle.kd_rings.specs.Rings.{AreRings, order}
+use Rattle.kd_rings.specs.declared.heads.TheConstants.{HEAD, START}
+use Rattle.kd_links.specs.declared.node.TheConstants.{NODES}
+use Rattle.kd_rings.proofs.Rings.{ring_alone}
 
 pub map_all : {X Y : Type 0} (f : X → Y) (n : ℕ) (x : X) → map f (replicate n x) ≡ replicate n (f x)
 map_all f zero x = refl
@@ -37,7 +38,7 @@ made =
     let s = ring_alone START blank blank start_inside refl starts starts in
     let h = ring_alone HEAD blank blank head_inside refl heads heads in
     record {
-      rings = record { slices = s.0; gaps = h.0; low = rw s.1 tt; high = rw h.1 tt };
+      rings = record { first = s.0; second = h.0; low = rw s.1 tt; high = rw h.1 tt };
       none = s.1;
       empty = h.1;
     }

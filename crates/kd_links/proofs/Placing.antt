@@ -1,6 +1,5 @@
 -- A chain of slices and gaps stays one with a slice more at its place, and with one less.
-use Rattle.std.specs.Prelude.{◌≡◌, ◌≢◌, ◌<◌, ◌≤◌, ◌+◌, ◌-◌, ◌%◌, ◌^◌, ◌&&◌, ℕ, Bool, true, false, List, [], ◌∷◌, None, Some, length, map, nat_eq, nat_lt, nat_le, option_map, refl, slice_index_or}
-use Rattle.std.specs.List.{AllByRecursion}
+use Rattle.std.specs.Prelude.{◌≡◌, ◌≢◌, ◌<◌, ◌≤◌, ◌+◌, ◌-◌, ◌%◌, ◌^◌, ℕ, Bool, true, false, List, [], ◌∷◌, None, Some, length, map, nat_eq, nat_lt, nat_le, option_map, refl, slice_index_or}
 use Rattle.std.proofs.Common.{ap, arith, set, sym, ◌∙◌, subst}
 use Rattle.std.proofs.lemmas.Bool.{true≢false}
 use Rattle.std.proofs.lemmas.Bool.Decides.{nat_tests}
@@ -12,16 +11,19 @@ use Rattle.kd_model.specs.Words.{but_those, contains, put_in_order}
 use Rattle.kd_model.specs.declared.placed.Gap.{Gap}
 use Rattle.kd_model.specs.declared.placed.Placed.{Placed}
 use Rattle.kd_model.specs.declared.slice_no.TheConstants.{SLICES}
-use Rattle.kd_links.specs.Chains.{AllBut, Chained, before, no_span, put_behind}
+use Rattle.kd_rings.specs.Rings.{AllBut, before, put_behind}
+use Rattle.kd_links.specs.Chains.{Chained, no_span}
 use Rattle.kd_links.specs.Filed.{AreBehind, IsFiled, first_fit, fits, gap_from, lying, no_gap, rank}
-use Rattle.kd_links.specs.Kept.{IsBehind, IsBinned, IsKept, IsLinked, chain_book, slice_of, slices_of}
+use Rattle.kd_links.specs.Kept.{IsBinned, IsKept, IsLinked, chain_book, slice_of, slices_of}
 use Rattle.kd_links.specs.declared.node.Span.{Span}
-use Rattle.kd_links.specs.declared.node.TheConstants.{GAPS, HEAD, MARKS, NODES, START}
-use Rattle.kd_links.proofs.Books.{IsOneLess, IsOneMore, IsPlace, bytes_with, bytes_within, bytes_without, free, kept_apart, kept_empty, kept_refiled, kept_with, kept_without, numbers_below, out_before, put_there, same_chain, start_ends, start_out, still_out, with_one, without_one}
+use Rattle.kd_rings.specs.declared.heads.TheConstants.{HEAD, START}
+use Rattle.kd_links.specs.declared.node.TheConstants.{GAPS, MARKS, NODES}
+use Rattle.kd_links.proofs.Books.{IsOneLess, IsOneMore, IsPlace, bytes_with, bytes_within, bytes_without, free, kept_apart, kept_empty, kept_refiled, kept_with, kept_without, numbers_below, out_before, put_there, same_chain, start_ends, still_out, with_one, without_one}
 use Rattle.kd_links.proofs.Filed.{filed_beside}
-use Rattle.kd_links.proofs.Linked.{all_but, differ, equal, not_in, without}
-use Rattle.kd_links.proofs.Lying.{AreOut, ArePut, IsBest, before_among, beside, is_best, lies, low_numbers, none_best, out_gaps, put_gaps}
-use Rattle.kd_links.proofs.Rings.{holds_in, later, later_in}
+use Rattle.kd_rings.proofs.Linked.{all_but, differ, equal, not_in, without}
+use Rattle.kd_rings.proofs.Ends.{before_among}
+use Rattle.kd_links.proofs.Lying.{AreOut, ArePut, IsBest, beside, is_best, lies, low_numbers, none_best, out_gaps, put_gaps}
+use Rattle.kd_rings.proofs.Rings.{holds_in, later}
 use Rattle.kd_slices.proofs.Walks.{ends_within}
 
 -- what is found in order of size is a gap

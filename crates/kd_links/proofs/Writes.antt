@@ -3,9 +3,10 @@ use Rattle.std.proofs.Common.{◌≡◌, ℕ, ◌<◌, List, map, length, get_or
 use Rattle.std.specs.Prelude.{◌∷◌, true, slice_index}
 use Rattle.std.proofs.lemmas.List.{get_or-map, length-map, map-set, set-get_or}
 use Rattle.kd_model.specs.Words.{contains}
-use Rattle.kd_links.specs.Chains.{IsRing, nexts, order, previouses}
+use Rattle.kd_rings.specs.Rings.{IsRing, order}
+use Rattle.kd_links.specs.Chains.{nexts, previouses}
 use Rattle.kd_links.specs.declared.node.Node.{Node}
-use Rattle.kd_links.proofs.Rings.{next_inside, previous_inside, ring_inside}
+use Rattle.kd_rings.proofs.Rings.{next_inside, previous_inside, ring_inside}
 
 pub same_under : {X Y : Type 0} (f : X → Y) (xs : List X) (i : ℕ) (x y : X) → i < length xs → x ≡ get_or xs i x → f y ≡ f x → map f (set xs i y) ≡ map f xs
 same_under f xs i x y lt e same =

@@ -7,7 +7,8 @@ use Rattle.kd_model.specs.declared.placed.Placed.{Placed}
 use Rattle.kd_links.specs.Chains.{Chained, no_span}
 use Rattle.kd_links.specs.Filed.{AreBehind, IsFiled, no_gap, rank}
 use Rattle.kd_links.specs.declared.node.Span.{Span}
-use Rattle.kd_links.specs.declared.node.TheConstants.{GAPS, NODES, START}
+use Rattle.kd_rings.specs.declared.heads.TheConstants.{START}
+use Rattle.kd_links.specs.declared.node.TheConstants.{GAPS, NODES}
 
 -- the slice of a number
 abbrev pub slice_of : List Span → ℕ → Placed

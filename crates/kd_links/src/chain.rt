@@ -1,11 +1,14 @@
 //! Two rings of numbers in one vector, each number with a span.
 
 ghost use Rattle.std.specs.Prelude.{◌≡◌, ◌<◌, ◌==◌, ◌∷◌, [], IfOk, IsTrue, false, length, replicate, slice_index_or, slice_set};
-ghost use Rattle.kd_links.specs.Chains.{Chained, AreRings, before, behind, foremost, no_span, nexts, order, previouses, put_behind, spans};
-ghost use Rattle.kd_links.specs.declared.node.TheConstants.{HEAD, NODES, START};
+ghost use Rattle.kd_rings.specs.Rings.{AreRings, before, behind, foremost, order, put_behind};
+ghost use Rattle.kd_links.specs.Chains.{Chained, no_span, nexts, previouses, spans};
+ghost use Rattle.kd_rings.specs.declared.heads.TheConstants.{HEAD, START};
+ghost use Rattle.kd_links.specs.declared.node.TheConstants.{NODES};
 ghost use Rattle.kd_model.specs.Words.{but_those, contains};
 
-use crate::node::{HEAD, NODES, Node, START, Span, link, set_next, set_previous, set_span, unlink};
+use crate::node::{NODES, Node, Span, link, set_next, set_previous, set_span, unlink};
+use kd_rings::{HEAD, START};
 use std::alloc::{AllocError, Global};
 use std::marker::Model;
 

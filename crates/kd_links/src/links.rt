@@ -5,12 +5,13 @@ ghost use Rattle.kd_model.specs.Slices.{Book, has_number, lowest_unused};
 ghost use Rattle.kd_model.specs.Words.{some_of};
 ghost use Rattle.kd_links.specs.Filed.{gap_from, lying};
 ghost use Rattle.kd_links.specs.Kept.{IsKept, IsLinked, chain_book, slices_of};
-ghost use Rattle.kd_links.specs.declared.node.TheConstants.{START};
+ghost use Rattle.kd_rings.specs.declared.heads.TheConstants.{START};
 
 use crate::bins;
 use crate::chain::Chain;
-use crate::node::{GAPS, START, Span};
+use crate::node::{GAPS, Span};
 use kd_model::{NoPlace, SLICES, SliceBook, SliceNo};
+use kd_rings::START;
 use std::alloc::{AllocError, Global};
 use std::marker::Model;
 

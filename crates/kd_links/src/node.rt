@@ -3,13 +3,7 @@
 ghost use Rattle.std.specs.Prelude.{◌≡◌, ◌<◌, slice_index, slice_set, vec_len};
 ghost use Rattle.kd_links.specs.Chains.{nexts, previouses, spans};
 
-use kd_model::SLICES;
-
-/// The number of the node from which the slices are reached: the first behind the slices' numbers.
-pub const START: u32 = SLICES;
-
-/// The number of the node from which the gaps are reached.
-pub const HEAD: u32 = START + 1;
+use kd_rings::{HEAD, START};
 
 /// The gap behind a slice or the start is the node of this number and its own.
 pub const GAPS: u32 = HEAD + 1;

@@ -1,5 +1,4 @@
 -- Two nodes and those beside them are written.
-use Rattle.std.specs.Prelude.{slice_index}
 use Rattle.std.proofs.Common.{ap, arith, set, ◌∙◌}
 use Rattle.kd_links.specs.Chains.{nexts, previouses}
 use Rattle.kd_links.specs.declared.node.Node.{Node}

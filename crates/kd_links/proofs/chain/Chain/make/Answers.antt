@@ -1,9 +1,11 @@
 -- The start and the head name themselves, and the other nodes the start.
-use Rattle.std.specs.Prelude.{◌≡◌, map, replicate}
-use Rattle.std.proofs.Common.{ap, arith, set, ◌∙◌}
+use Rattle.std.specs.Prelude.{◌≡◌}
+use Rattle.std.proofs.Common.{ap, set, ◌∙◌}
 use Rattle.kd_links.specs.declared.node.Node.{Node}
-use Rattle.kd_links.specs.declared.node.TheConstants.{HEAD, NODES, START}
-use Rattle.kd_links.specs.Chains.{nexts, no_span, order, previouses, spans}
+use Rattle.kd_rings.specs.declared.heads.TheConstants.{HEAD, START}
+use Rattle.kd_links.specs.declared.node.TheConstants.{NODES}
+use Rattle.kd_rings.specs.Rings.{order}
+use Rattle.kd_links.specs.Chains.{nexts, no_span, previouses, spans}
 use Rattle.kd_links.proofs.Made.{blank, made, map_all}
 use Rattle.kd_links.proofs.chain.Chain.make.Goals as goal
 

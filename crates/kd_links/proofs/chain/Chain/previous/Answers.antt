@@ -2,10 +2,11 @@
 use Rattle.std.specs.Prelude.{◌≡◌, true}
 use Rattle.std.proofs.Common.{arith, ◌∙◌}
 use Rattle.kd_model.specs.Words.{contains}
-use Rattle.kd_links.specs.Chains.{nexts, order, previouses}
+use Rattle.kd_rings.specs.Rings.{order}
+use Rattle.kd_links.specs.Chains.{nexts, previouses}
 use Rattle.kd_links.specs.declared.node.Node.{Node}
-use Rattle.kd_links.specs.declared.node.TheConstants.{START}
-use Rattle.kd_links.proofs.Rings.{later_in, ring_before}
+use Rattle.kd_rings.specs.declared.heads.TheConstants.{START}
+use Rattle.kd_rings.proofs.Rings.{later_in, ring_before}
 use Rattle.kd_links.proofs.Writes.{node_inside, read_under}
 use Rattle.kd_links.proofs.chain.Chain.previous.Goals as goal
 
@@ -13,12 +14,12 @@ pub index-requires : goal.index-requires
 index-requires c =
     let ns = c.self.inside.nodes.items in
     let among : contains c.args.number (order START (nexts ns)) ≡ true = rw (← c.self.view_is) at c.requires in
-    omega (arith, c.self.inside.nodes.ok.0, node_inside START ns c.args.number c.self.invariant.slices (later_in c.args.number START (order START (nexts ns)) among))
+    omega (arith, c.self.inside.nodes.ok.0, node_inside START ns c.args.number c.self.invariant.first (later_in c.args.number START (order START (nexts ns)) among))
 
 pub returns : goal.returns
 returns c =
     let ns = c.self.inside.nodes.items in
     let among : contains c.args.number (order START (nexts ns)) ≡ true = rw (← c.self.view_is) at c.requires in
-    let inside = node_inside START ns c.args.number c.self.invariant.slices (later_in c.args.number START (order START (nexts ns)) among) in
+    let inside = node_inside START ns c.args.number c.self.invariant.first (later_in c.args.number START (order START (nexts ns)) among) in
     let read = read_under (λ (n : Node). n.previous) ns c.args.number c.index.result.now inside c.index.ensures in
-    rw (← c.self.view_is) (read ∙ ring_before START (nexts ns) (previouses ns) c.args.number c.self.invariant.slices among)
+    rw (← c.self.view_is) (read ∙ ring_before START (nexts ns) (previouses ns) c.args.number c.self.invariant.first among)

@@ -1,19 +1,20 @@
 -- The writes are those of a ring with one number more.
 use Rattle.std.specs.Prelude.{◌≡◌, ◌<◌, ◌∷◌, true, false, length}
-use Rattle.std.proofs.Common.{ap, arith, sym, ◌∙◌}
+use Rattle.std.proofs.Common.{ap, arith, ◌∙◌}
 use Rattle.std.proofs.lemmas.List.{length-map}
 use Rattle.kd_model.specs.Words.{contains}
-use Rattle.kd_links.specs.Chains.{AreRings, nexts, order, previouses, put_behind}
+use Rattle.kd_rings.specs.Rings.{order}
+use Rattle.kd_links.specs.Chains.{nexts, previouses}
 use Rattle.kd_links.specs.declared.node.Node.{Node}
-use Rattle.kd_links.specs.declared.node.TheConstants.{HEAD, START}
-use Rattle.kd_links.proofs.Pairs.{AreThen, slice_put, put_next, put_previous}
+use Rattle.kd_rings.specs.declared.heads.TheConstants.{HEAD, START}
+use Rattle.kd_rings.proofs.Pairs.{first_put}
 use Rattle.kd_links.proofs.Writes.{next_node, node_inside}
 use Rattle.kd_links.proofs.chain.Chain.put_behind.Goals as goal
 
 pub link-requires-clause-place : goal.link-requires-clause-place
 link-requires-clause-place c =
     let ns = c.self.inside.nodes.items in
-    omega (arith, c.self.inside.nodes.ok.0, node_inside START ns c.args.place c.self.invariant.slices (rw (← c.self.view_is) at c.requires.place))
+    omega (arith, c.self.inside.nodes.ok.0, node_inside START ns c.args.place c.self.invariant.first (rw (← c.self.view_is) at c.requires.place))
 
 pub link-requires-clause-number : goal.link-requires-clause-number
 link-requires-clause-number c =
@@ -24,7 +25,7 @@ link-requires-clause-number c =
 pub link-requires-clause-next : goal.link-requires-clause-next
 link-requires-clause-next c =
     let ns = c.self.inside.nodes.items in
-    omega (arith, c.self.inside.nodes.ok.0, next_node START ns c.args.place c.self.invariant.slices (rw (← c.self.view_is) at c.requires.place))
+    omega (arith, c.self.inside.nodes.ok.0, next_node START ns c.args.place c.self.invariant.first (rw (← c.self.view_is) at c.requires.place))
 
 pub set_span-requires : goal.set_span-requires
 set_span-requires c =
@@ -38,7 +39,7 @@ invariant_of-self c =
     let among : contains p (START ∷ order START (nexts ns)) ≡ true = rw (← c.self.view_is) at c.requires.place in
     let new : contains n (START ∷ order START (nexts ns)) ≡ false = rw (← c.self.view_is) at c.requires.number in
     let inside : n < length ns = omega (arith, length-map ns (λ (m : Node). m.span), rw (← c.self.view_is) at c.requires.inside) in
-    let then = slice_put (nexts ns) (previouses ns) p n c.self.invariant among new c.requires.low (omega (arith, length-map ns (λ (m : Node). m.next))) in
+    let then = first_put (nexts ns) (previouses ns) p n c.self.invariant among new c.requires.low (omega (arith, length-map ns (λ (m : Node). m.next))) in
     let forward = c.set_span.ensures.nexts ∙ c.link.ensures.nexts in
     let back = c.set_span.ensures.previous ∙ c.link.ensures.previous in
     rw (forward, back) then.rings
@@ -49,9 +50,9 @@ returns-clause-order c =
     let among : contains p (START ∷ order START (nexts ns)) ≡ true = rw (← c.self.view_is) at c.requires.place in
     let new : contains n (START ∷ order START (nexts ns)) ≡ false = rw (← c.self.view_is) at c.requires.number in
     let inside : n < length ns = omega (arith, length-map ns (λ (m : Node). m.span), rw (← c.self.view_is) at c.requires.inside) in
-    let then = slice_put (nexts ns) (previouses ns) p n c.self.invariant among new c.requires.low (omega (arith, length-map ns (λ (m : Node). m.next))) in
+    let then = first_put (nexts ns) (previouses ns) p n c.self.invariant among new c.requires.low (omega (arith, length-map ns (λ (m : Node). m.next))) in
     let forward = c.set_span.ensures.nexts ∙ c.link.ensures.nexts in
-    rw (← c.self.view_is) (ap (order START) forward ∙ then.slices_now)
+    rw (← c.self.view_is) (ap (order START) forward ∙ then.first_now)
 
 pub returns-clause-gaps : goal.returns-clause-gaps
 returns-clause-gaps c =
@@ -59,6 +60,6 @@ returns-clause-gaps c =
     let among : contains p (START ∷ order START (nexts ns)) ≡ true = rw (← c.self.view_is) at c.requires.place in
     let new : contains n (START ∷ order START (nexts ns)) ≡ false = rw (← c.self.view_is) at c.requires.number in
     let inside : n < length ns = omega (arith, length-map ns (λ (m : Node). m.span), rw (← c.self.view_is) at c.requires.inside) in
-    let then = slice_put (nexts ns) (previouses ns) p n c.self.invariant among new c.requires.low (omega (arith, length-map ns (λ (m : Node). m.next))) in
+    let then = first_put (nexts ns) (previouses ns) p n c.self.invariant among new c.requires.low (omega (arith, length-map ns (λ (m : Node). m.next))) in
     let forward = c.set_span.ensures.nexts ∙ c.link.ensures.nexts in
-    rw (← c.self.view_is) (ap (order HEAD) forward ∙ then.gaps_now)
+    rw (← c.self.view_is) (ap (order HEAD) forward ∙ then.second_now)

@@ -2,10 +2,11 @@
 use Rattle.std.specs.Prelude.{◌≡◌, true}
 use Rattle.std.proofs.Common.{ap, arith, ◌∙◌}
 use Rattle.kd_model.specs.Words.{contains}
-use Rattle.kd_links.specs.Chains.{nexts, order, previouses}
-use Rattle.kd_links.specs.declared.node.TheConstants.{HEAD, START}
-use Rattle.kd_links.proofs.Pairs.{slice_out}
-use Rattle.kd_links.proofs.Rings.{later_in}
+use Rattle.kd_rings.specs.Rings.{order}
+use Rattle.kd_links.specs.Chains.{nexts, previouses}
+use Rattle.kd_rings.specs.declared.heads.TheConstants.{HEAD, START}
+use Rattle.kd_rings.proofs.Pairs.{first_out}
+use Rattle.kd_rings.proofs.Rings.{later_in}
 use Rattle.kd_links.proofs.Writes.{next_node, node_inside, previous_node}
 use Rattle.kd_links.proofs.chain.Chain.take_out.Goals as goal
 
@@ -13,33 +14,33 @@ pub unlink-requires-clause-number : goal.unlink-requires-clause-number
 unlink-requires-clause-number c =
     let ns = c.self.inside.nodes.items in let n = c.args.number in
     let among : contains n (order START (nexts ns)) ≡ true = rw (← c.self.view_is) at c.requires in
-    omega (arith, c.self.inside.nodes.ok.0, node_inside START ns n c.self.invariant.slices (later_in n START (order START (nexts ns)) among))
+    omega (arith, c.self.inside.nodes.ok.0, node_inside START ns n c.self.invariant.first (later_in n START (order START (nexts ns)) among))
 
 pub unlink-requires-clause-next : goal.unlink-requires-clause-next
 unlink-requires-clause-next c =
     let ns = c.self.inside.nodes.items in let n = c.args.number in
     let among : contains n (order START (nexts ns)) ≡ true = rw (← c.self.view_is) at c.requires in
-    omega (arith, c.self.inside.nodes.ok.0, next_node START ns n c.self.invariant.slices (later_in n START (order START (nexts ns)) among))
+    omega (arith, c.self.inside.nodes.ok.0, next_node START ns n c.self.invariant.first (later_in n START (order START (nexts ns)) among))
 
 pub unlink-requires-clause-previous : goal.unlink-requires-clause-previous
 unlink-requires-clause-previous c =
     let ns = c.self.inside.nodes.items in let n = c.args.number in
     let among : contains n (order START (nexts ns)) ≡ true = rw (← c.self.view_is) at c.requires in
-    omega (arith, c.self.inside.nodes.ok.0, previous_node START ns n c.self.invariant.slices among)
+    omega (arith, c.self.inside.nodes.ok.0, previous_node START ns n c.self.invariant.first among)
 
 pub set_span-requires : goal.set_span-requires
 set_span-requires c =
     let ns = c.self.inside.nodes.items in let n = c.args.number in
     let among : contains n (order START (nexts ns)) ≡ true = rw (← c.self.view_is) at c.requires in
     record {
-      inside = omega (arith, c.unlink.ensures.len, c.self.inside.nodes.ok.0, node_inside START ns n c.self.invariant.slices (later_in n START (order START (nexts ns)) among));
+      inside = omega (arith, c.unlink.ensures.len, c.self.inside.nodes.ok.0, node_inside START ns n c.self.invariant.first (later_in n START (order START (nexts ns)) among));
     }
 
 pub invariant_of-self : goal.invariant_of-self
 invariant_of-self c =
     let ns = c.self.inside.nodes.items in let n = c.args.number in
     let among : contains n (order START (nexts ns)) ≡ true = rw (← c.self.view_is) at c.requires in
-    let then = slice_out (nexts ns) (previouses ns) n c.self.invariant among in
+    let then = first_out (nexts ns) (previouses ns) n c.self.invariant among in
     let forward = c.set_span.ensures.nexts ∙ c.unlink.ensures.nexts in
     let back = c.set_span.ensures.previous ∙ c.unlink.ensures.previous in
     rw (forward, back) then.rings
@@ -48,14 +49,14 @@ pub returns-clause-order : goal.returns-clause-order
 returns-clause-order c =
     let ns = c.self.inside.nodes.items in let n = c.args.number in
     let among : contains n (order START (nexts ns)) ≡ true = rw (← c.self.view_is) at c.requires in
-    let then = slice_out (nexts ns) (previouses ns) n c.self.invariant among in
+    let then = first_out (nexts ns) (previouses ns) n c.self.invariant among in
     let forward = c.set_span.ensures.nexts ∙ c.unlink.ensures.nexts in
-    rw (← c.self.view_is) (ap (order START) forward ∙ then.slices_now)
+    rw (← c.self.view_is) (ap (order START) forward ∙ then.first_now)
 
 pub returns-clause-gaps : goal.returns-clause-gaps
 returns-clause-gaps c =
     let ns = c.self.inside.nodes.items in let n = c.args.number in
     let among : contains n (order START (nexts ns)) ≡ true = rw (← c.self.view_is) at c.requires in
-    let then = slice_out (nexts ns) (previouses ns) n c.self.invariant among in
+    let then = first_out (nexts ns) (previouses ns) n c.self.invariant among in
     let forward = c.set_span.ensures.nexts ∙ c.unlink.ensures.nexts in
-    rw (← c.self.view_is) (ap (order HEAD) forward ∙ then.gaps_now)
+    rw (← c.self.view_is) (ap (order HEAD) forward ∙ then.second_now)

@@ -1,15 +1,15 @@
 -- The slice's range and the gaps on both its sides are one gap, and the book stays sound without it.
-use Rattle.std.specs.Prelude.{◌≡◌, ◌≤◌, ◌<◌, ◌+◌, ◌-◌, ◌^◌, ℕ, List, true, slice_index_or}
+use Rattle.std.specs.Prelude.{◌≡◌, ◌≤◌, ◌+◌, ◌-◌, List, true, slice_index_or}
 use Rattle.std.proofs.Common.{ap, arith, set, sym, ◌∙◌}
-use Rattle.kd_model.specs.Slices.{Book, has_number, is_placed}
+use Rattle.kd_model.specs.Slices.{has_number, is_placed}
 use Rattle.kd_model.specs.Words.{but_those, contains}
 use Rattle.kd_model.specs.declared.placed.Gap.{Gap}
 use Rattle.kd_model.specs.declared.placed.Placed.{Placed}
 use Rattle.kd_links.specs.Chains.{no_span}
-use Rattle.kd_links.specs.Filed.{gap_from, lying, rank}
+use Rattle.kd_links.specs.Filed.{lying, rank}
 use Rattle.kd_links.specs.Kept.{chain_book, slice_of, slices_of}
 use Rattle.kd_links.specs.declared.node.Span.{Span}
-use Rattle.kd_links.specs.declared.node.TheConstants.{GAPS, START}
+use Rattle.kd_links.specs.declared.node.TheConstants.{GAPS}
 use Rattle.kd_links.proofs.Books.{number_in}
 use Rattle.kd_links.proofs.Placing.{GivesBack, IsAfter, before_in, before_low, filed_one_less, given_back, low_of, one_less, part_of, sides}
 use Rattle.kd_links.proofs.links.LinksSliceBook.give_back.Goals as goal

@@ -1,16 +1,17 @@
 -- An unused number stands nowhere in the chain, and the book stays sound with it at its place.
-use Rattle.std.specs.Prelude.{◌≡◌, ◌≤◌, ◌<◌, ◌+◌, ◌-◌, ◌%◌, ◌^◌, ℕ, ◌∷◌, List, None, Some, option_map, slice_index_or}
+use Rattle.std.specs.Prelude.{◌≡◌, ◌≤◌, ◌<◌, ◌+◌, ◌-◌, ◌%◌, ℕ, ◌∷◌, List, None, Some, option_map}
 use Rattle.std.proofs.Common.{ap, arith, set, sym, ◌∙◌}
-use Rattle.kd_model.specs.Slices.{Book, is_lower, unused_number}
+use Rattle.kd_model.specs.Slices.{is_lower, unused_number}
 use Rattle.kd_model.specs.Words.{put_in_order}
 use Rattle.kd_model.specs.declared.placed.Placed.{Placed}
-use Rattle.kd_links.specs.Chains.{Chained, no_span}
-use Rattle.kd_links.specs.Filed.{first_fit, gap_from, lying, rank}
+use Rattle.kd_links.specs.Chains.{Chained}
+use Rattle.kd_links.specs.Filed.{first_fit, lying, rank}
 use Rattle.kd_links.specs.Kept.{IsLinked, chain_book, slices_of}
 use Rattle.kd_links.specs.declared.node.Span.{Span}
-use Rattle.kd_links.specs.declared.node.TheConstants.{GAPS, START}
+use Rattle.kd_rings.specs.declared.heads.TheConstants.{START}
+use Rattle.kd_links.specs.declared.node.TheConstants.{GAPS}
 use Rattle.kd_links.proofs.Books.{free}
-use Rattle.kd_links.proofs.Linked.{not_in}
+use Rattle.kd_rings.proofs.Linked.{not_in}
 use Rattle.kd_links.proofs.Placing.{IsAfter, IsPlacing, Places, best_of, bytes_fit, filed_one_more, fit_low, is_place, new_span, none_placed, placed, placed_at, within_pool}
 use Rattle.kd_links.proofs.links.LinksSliceBook.place.Goals as goal
 
