@@ -1,0 +1,18 @@
+-- In reading order.
+
+-- what an entry says
+pub mod Slips
+-- what the values behind the locks stand for
+pub mod Values
+-- what contracts see of a bus and of its passes
+pub mod Sight
+-- what a call on one pool tells
+pub mod Turned
+-- what a caller is at its desk
+pub mod Members
+-- what the holder of the desk tells of its visits
+pub mod Visited
+-- what a command needs before its first visit
+pub mod Ready
+-- what a command tells
+pub mod Leaving

@@ -1,0 +1,50 @@
+-- What a slip says.
+use Rattle.std.specs.Prelude.{ℕ, List, [], slice_index}
+use Rattle.kd_acts.specs.State.{by_desk, publish, receive}
+use Rattle.kd_desk.specs.Drafts.{content_at, part_with}
+use Rattle.kd_desk.specs.Outs.{answers_of, out_answer}
+use Rattle.kd_histories.specs.Pools.{marked_numbers}
+use Rattle.kd_pool.specs.Told.{receive_answer}
+use Rattle.kd_holds.specs.Publishing.{publish_answer}
+use Rattle.kd_histories.specs.Turns.{Turn, did, left, idle}
+use Rattle.kd_bus.specs.declared.slip.Note.{Note}
+use Rattle.kd_bus.specs.declared.slip.Note.TheVariants as note
+
+-- the four words that a sweep found
+abbrev pub words_in : List ℕ → ℕ → ℕ
+words_in marks q = slice_index marks q
+
+-- what its turn did
+unfoldable pub turn_told : Note → Turn
+turn_told (note.Left l) =
+    left (record {
+      generation = l.generation.value;
+      aim = l.aim.value;
+      who = l.who.value;
+      command = l.command.value;
+      outs = answers_of l.outs.value.items;
+      reply = l.reply.value;
+      becomes = l.becomes.value;
+    })
+turn_told (note.Visited x) =
+    did (record {
+      generation = x.generation.value;
+      freed = marked_numbers (words_in x.marks.value);
+      act = by_desk (part_with (content_at x.index.value x.plan.value.contents) x.part.value).act;
+      answer = out_answer x.out.value;
+    })
+turn_told (note.Published p) =
+    did (record {
+      generation = p.generation.value;
+      freed = [];
+      act = publish p.pending.value.generation p.pending.value.number p.pending.value.content;
+      answer = publish_answer p.published.value;
+    })
+turn_told (note.Received r) =
+    did (record {
+      generation = r.generation.value;
+      freed = [];
+      act = receive r.mode.value;
+      answer = receive_answer r.got.value;
+    })
+turn_told note.Idle = idle
