@@ -5,7 +5,7 @@ use Rattle.std.proofs.Math.Seq.{take-nil}
 use Rattle.std.proofs.lemmas.Bool.{eq-eqb, le-ltb, ltb-false, ltb-true, ne_eqb}
 use Rattle.std.proofs.lemmas.List.{drop-drop, drop_at, length-replicate, take_at}
 use Rattle.kd_item.specs.Reading.{are_zeros}
-use Rattle.kd_item.specs.Spelling.{number, padding, word, words}
+use Rattle.kd_item.specs.Spelling.{number, padding, word}
 use Rattle.kd_item.proofs.Words.{IsBytes, IsBytes-drop, length-word, word_again}
 use Rattle.kd_item.proofs.Zeros.{zeros_pass}
 use Rattle.kd_types.specs.declared.refusal.Refusal.{Refusal}

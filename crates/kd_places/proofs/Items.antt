@@ -12,7 +12,7 @@ use Rattle.kd_item.specs.Reading.{placed, split}
 use Rattle.kd_item.specs.Spelling.{AreItems, Entry, number, spelling, spellings, words}
 use Rattle.kd_item.proofs.OneItem.{item_again}
 use Rattle.kd_item.proofs.Sizes.{length-body}
-use Rattle.kd_item.proofs.Splits.{split_item, split_whole}
+use Rattle.kd_item.proofs.Splits.{split_again, split_item, split_whole}
 use Rattle.kd_item.proofs.Words.{IsBytes, IsBytes-behind, IsBytes-drop, IsBytes-front, number_fits}
 use Rattle.kd_image.specs.declared.message.SealedRange.{SealedRange}
 use Rattle.kd_image.specs.Items.{Contents, begins, creds_item, description_item, items, maybe, moment_item, name_item, off_item, off_items, owned_item, rising, shared_item, with_range}
@@ -20,7 +20,7 @@ use Rattle.kd_image.specs.Reading.{blank, contents_in, no_description, no_item, 
 use Rattle.kd_image.specs.Said.{IsWord}
 use Rattle.kd_image.proofs.Again.{behind_word, number_words, said, takes, takes_both, takes_creds, takes_description, takes_moment, takes_name, takes_names, then_takes}
 use Rattle.kd_image.proofs.Round.{are_items}
-use Rattle.kd_image.proofs.Sound.{SoFar, adds, front_body}
+use Rattle.kd_image.proofs.Sound.{SoFar, adds, empty_is, front_body}
 use Rattle.kd_image.proofs.Written.{length-off_items, offs_behind}
 use Rattle.kd_places.specs.Images.{AreOffs, BeginItems, CanBeTold, ItemPlacesAreTrue}
 
@@ -203,10 +203,10 @@ spellings_append : (xs ys : List Entry) → spellings (xs ++ ys) ≡ spellings x
 spellings_append [] ys = refl
 spellings_append (x ∷ xs) ys = ap (λ (l : List ℕ). spelling x ++ l) (spellings_append xs ys) ∙ sym (append_assoc (spelling x) (spellings xs) (spellings ys))
 
-blank_told : (size : ℕ) → CanBeTold size blank
+pub blank_told : (size : ℕ) → CanBeTold size blank
 blank_told size = record { creds = tt; names = tt; order = refl; description = tt; moment = tt; name = tt; few = omega arith; offs = tt; range = tt }
 
-items_before : (size at : ℕ) (area : List ℕ) → IsBytes area → 64 + length area ≡ size → contents_in size area ≡ bad at → BeginItems size area at
+pub items_before : (size at : ℕ) (area : List ℕ) → IsBytes area → 64 + length area ≡ size → contents_in size area ≡ bad at → BeginItems size area at
 unfolding contents_in
 items_before size at area fits whole e =
     let es : List Entry = (split area).0 in
@@ -226,6 +226,37 @@ items_before size at area fits whole e =
           ∙ append_assoc (spellings b.own) (spellings b.others) left ∙ ap (λ (l : List Entry). spellings l ++ (spellings b.others ++ left)) (sym are);
       ends = omega (arith, there, same);
     }
+
+-- read to the end
+ended : (b : Bool) (c d : Contents) (a : ℕ) → cond b (good c) (bad a) ≡ good d → (b ≡ true) × (c ≡ d)
+ended true c d a e = (refl, cc)
+ended false c d a e = absurd cc
+
+pub told_whole : (es : List Entry) (size : ℕ) (c d : Contents) (from : ℕ) (left : List ℕ) → IsBytes (spellings es) → CanBeTold size c → read_on size c (placed from es) left ≡ good d
+    → CanBeTold size d × (items size d ≡ items size c ++ es) × (left ≡ [])
+told_whole [] size c d from left fits t e =
+    let x = ended (is_empty left) c d (size - length left) e in
+    (subst (CanBeTold size) x.1 t, ap (items size) (sym x.1) ∙ sym (append-nil (items size c)), empty_is left x.0)
+told_whole (x ∷ es) size c d from left fits t e =
+    let go : Option Contents → Told = λ o. elim o [ None ↦ bad from | Some d ↦ read_on size d (placed (from + length (spelling x)) es) left ] in
+    elim (option_cases (with_item size c x)) [
+      | inl none ↦ let never : bad from ≡ good d = sym (ap go none) ∙ e in absurd cc
+      | inr some ↦
+          let one = told_more size c some.0 x (front_body x (spellings es) fits) t some.1 in
+          let more = told_whole es size some.0 d (from + length (spelling x)) left (IsBytes-behind (spelling x) (spellings es) fits) one.0 (sym (ap go some.1) ∙ e) in
+          (more.0, more.1 ∙ ap (λ (l : List Entry). l ++ es) one.1 ∙ append_assoc (items size c) (x ∷ []) es, more.2)
+    ]
+
+-- all that is read tells what it says
+pub items_told : (size : ℕ) (area : List ℕ) (c : Contents) → IsBytes area → contents_in size area ≡ good c → CanBeTold size c × (area ≡ spellings (items size c))
+unfolding contents_in
+items_told size area c fits e =
+    let es : List Entry = (split area).0 in
+    let left : List ℕ = (split area).1 in
+    let parts : area ≡ spellings es ++ left = (split_whole area fits).0 in
+    let t = told_whole es size blank c 64 left (IsBytes-front (spellings es) left (subst (λ (l : List ℕ). IsBytes l) parts fits)) (blank_told size) e in
+    let are : items size c ≡ es = t.1 in
+    (t.0, parts ∙ ap (λ (l : List ℕ). spellings es ++ l) t.2 ∙ append-nil (spellings es) ∙ ap spellings (sym are))
 
 -- ---- what tells something is taken in
 
@@ -282,7 +313,7 @@ takes_body size x ns d m n ls (Some r) few a h =
     let third : takes size (said x ns d m n front None) (shared_item r ∷ off_items size front back) ≡ Some (said x ns d m n ls (Some r)) = ap (then_takes size (off_items size front back)) shared ∙ second ∙ ap (λ (l : List ℕ). Some (said x ns d m n l (Some r))) whole in
     rw (taken, dropped) (takes_both size (said x ns d m n [] None) (said x ns d m n front None) (said x ns d m n ls (Some r)) (off_items size [] front) (shared_item r ∷ off_items size front back) first third)
 
-takes_all : (size : ℕ) (c : Contents) → CanBeTold size c → takes size blank (items size c) ≡ Some c
+pub takes_all : (size : ℕ) (c : Contents) → CanBeTold size c → takes size blank (items size c) ≡ Some c
 takes_all size c t =
     let c1 : Contents = said c.creds [] None None None [] None in
     let c2 : Contents = said c.creds c.names None None None [] None in
@@ -305,7 +336,7 @@ takes_all size c t =
 -- ---- and passed
 
 -- items at the front, and what is read behind them
-split_more : (es : List Entry) (rest : List ℕ) → AreItems es → split (spellings es ++ rest) ≡ (es ++ (split rest).0, (split rest).1)
+pub split_more : (es : List Entry) (rest : List ℕ) → AreItems es → split (spellings es ++ rest) ≡ (es ++ (split rest).0, (split rest).1)
 split_more [] rest fits = refl
 split_more (e ∷ es) rest fits =
     let parts : spellings (e ∷ es) ++ rest ≡ spelling e ++ (spellings es ++ rest) = append_assoc (spelling e) (spellings es) rest in
@@ -314,7 +345,7 @@ split_more (e ∷ es) rest fits =
     ∙ ap put (split_more es rest fits.1)
 
 -- what is taken in is passed
-read_past : (es fs : List Entry) (size from : ℕ) (a b : Contents) (left : List ℕ) → takes size a es ≡ Some b
+pub read_past : (es fs : List Entry) (size from : ℕ) (a b : Contents) (left : List ℕ) → takes size a es ≡ Some b
     → read_on size a (placed from (es ++ fs)) left ≡ read_on size b (placed (from + length (spellings es)) fs) left
 read_past [] fs size from a b left e =
     let place : from + 0 ≡ from = omega arith in
@@ -330,7 +361,7 @@ read_past (x ∷ es) fs size from a b left e =
           ∙ ap (λ n. read_on size b (placed n fs) left) place
     ]
 
-items_reach : (size at place : ℕ) (area : List ℕ) → IsBytes area → 64 + length area ≡ size → size < 2 ^ 64 → contents_in size area ≡ bad at → BeginItems size area place → place ≤ at
+pub items_reach : (size at place : ℕ) (area : List ℕ) → IsBytes area → 64 + length area ≡ size → size < 2 ^ 64 → contents_in size area ≡ bad at → BeginItems size area place → place ≤ at
 unfolding contents_in
 items_reach size at place area fits whole small e b =
     let es : List Entry = items size b.told in
@@ -351,6 +382,19 @@ items_reach size at place area fits whole small e b =
     (omega (arith, long, len, whole, tail_long, tail_len)) read in
     let there = before.ends in let ends = b.ends in
     omega (arith, there, ends)
+
+-- and what tells something is read whole
+pub told_read : (size : ℕ) (area : List ℕ) (c : Contents) → length area < 2 ^ 64 → CanBeTold size c → area ≡ spellings (items size c) → contents_in size area ≡ good c
+unfolding contents_in
+told_read size area c small t is =
+    let es : List Entry = items size c in
+    let taken : takes size blank es ≡ Some c = takes_all size c t in
+    let long = ap length is in
+    let are : AreItems es = are_items size blank c es taken (omega (arith, long, small)) in
+    let parts : split area ≡ (es, []) = ap split is ∙ split_again es are in
+    let all : es ++ [] ≡ es = append-nil es in
+    ap (λ (p : List Entry × List ℕ). read_on size blank (placed 64 p.0) p.1) parts ∙ ap (λ (l : List Entry). read_on size blank (placed 64 l) []) (sym all)
+    ∙ read_past es [] size 64 blank c [] taken
 
 pub item_places_are_true : ItemPlacesAreTrue
 item_places_are_true size at area fits whole small e = record {

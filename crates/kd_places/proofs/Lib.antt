@@ -6,3 +6,5 @@ pub mod Here
 pub mod Places
 pub mod Items
 pub mod Payloads
+pub mod Notices
+pub mod Whole

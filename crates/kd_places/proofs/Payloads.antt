@@ -63,7 +63,7 @@ padded_long p =
 on_payload : List (List ℕ) → ℕ → ℕ → List ℕ → Option (List ℕ × List ℕ) → Payloads
 on_payload done at n ns o = elim o [ None ↦ bad at | Some x ↦ payloads_from (done ++ x.0 ∷ []) (at + padded_length n) ns x.1 ]
 
-payloads_before : (ns : List ℕ) (done : List (List ℕ)) (from at : ℕ) (bytes : List ℕ) → payloads_from done from ns bytes ≡ bad at → BeginPayloads from ns bytes at
+pub payloads_before : (ns : List ℕ) (done : List (List ℕ)) (from at : ℕ) (bytes : List ℕ) → payloads_from done from ns bytes ≡ bad at → BeginPayloads from ns bytes at
 payloads_before [] done from at bytes e =
     let is = ended_or_not (is_empty bytes) done from at e in
     record { payloads = []; long = refl; rest = bytes; spelled = refl; ends = omega (arith, is) }
@@ -90,7 +90,7 @@ payloads_before (n ∷ ns) done from at bytes e =
           }
     ]
 
-payloads_reach : (ps : List (List ℕ)) (ns : List ℕ) (done : List (List ℕ)) (from at : ℕ) (bytes rest : List ℕ) → map length ps ≡ take (length ps) ns → bytes ≡ laid ps ++ rest
+pub payloads_reach : (ps : List (List ℕ)) (ns : List ℕ) (done : List (List ℕ)) (from at : ℕ) (bytes rest : List ℕ) → map length ps ≡ take (length ps) ns → bytes ≡ laid ps ++ rest
     → payloads_from done from ns bytes ≡ bad at → from + length (laid ps) ≤ at
 payloads_reach [] ns done from at bytes rest long is e = let b = (payloads_before ns done from at bytes e).ends in omega (arith, b)
 payloads_reach (p ∷ ps) [] done from at bytes rest long is e = absurd cc

@@ -5,3 +5,5 @@
 pub mod Replies
 -- the items and the payloads of images
 pub mod Images
+-- images, whole
+pub mod Whole

@@ -1,6 +1,7 @@
 //! Where bytes break a format. Nothing is run here; each function's contract is a law.
 
 ghost use Rattle.kd_places.specs.Images.{ItemPlacesAreTrue, PayloadPlacesAreTrue};
+ghost use Rattle.kd_places.specs.Whole.{ImagePlacesAreOne, ImagePlacesAreTrue};
 ghost use Rattle.kd_places.specs.Replies.{ReplyPlacesAreOne, ReplyPlacesAreTrue, UnitsMakeReplies};
 
 /// A reply is its size word and its units.
@@ -29,4 +30,16 @@ pub fn item_places_are_true()
 /// each with its zeros.
 pub fn payload_places_are_true()
     ensures { PayloadPlacesAreTrue }
+{}
+
+/// The place that the reading of an image answers is behind the longest beginning of the bytes that
+/// can still become a whole image, of a message or of a notice; it is 0 where the size word says
+/// what can't be.
+pub fn image_places_are_true()
+    ensures { ImagePlacesAreTrue }
+{}
+
+/// Bytes have one such place at most.
+pub fn image_places_are_one()
+    ensures { ImagePlacesAreOne }
 {}

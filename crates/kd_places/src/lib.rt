@@ -10,11 +10,12 @@
 //!
 //! - `specs/Replies`: replies by their units, and the place where bytes break
 //! - `specs/Images`: the items and the payloads of a message's image, and where they break
+//! - `specs/Whole`: images, of messages and of notices, and where they break
 #![tactic(auto)]
 
 mod laws;
 
 pub use laws::{
-    item_places_are_true, payload_places_are_true, reply_places_are_one, reply_places_are_true,
-    units_make_replies,
+    image_places_are_one, image_places_are_true, item_places_are_true, payload_places_are_true,
+    reply_places_are_one, reply_places_are_true, units_make_replies,
 };
