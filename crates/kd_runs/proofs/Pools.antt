@@ -15,7 +15,7 @@ use Rattle.kd_commands.specs.declared.who.Who.{Who}
 use Rattle.kd_commands.specs.Plans.{Part, Plan}
 use Rattle.kd_commands.specs.Seating.{is_live, open_along}
 use Rattle.kd_commands.specs.State.{Desk, opening_desk}
-use Rattle.kd_commands.specs.Step.{Ended, ended, ended_by, plan}
+use Rattle.kd_commands.specs.Step.{Ended, ended, ended_by}
 use Rattle.kd_commands.specs.Visits.{first_ends, images_in, met, next_part, with_images}
 use Rattle.kd_commands.proofs.Opens.{raises_free}
 use Rattle.kd_counts.specs.Sizes.{size_by, size_of}

@@ -1,7 +1,6 @@
 -- What holds of every world that legal events lead to.
 use Rattle.std.specs.Prelude.{◌≡◌, ◌≢◌, ℕ, Some, IsNone, IsTrue}
 use Rattle.kd_acts.specs.Lasting.{is_open}
-use Rattle.kd_commands.specs.declared.who.WhoKind.TheVariants as who
 use Rattle.kd_commands.specs.Seating.{is_live, open_along}
 use Rattle.kd_counts.specs.Sizes.{size_of}
 use Rattle.kd_settled.specs.Callers.{IsApart}
