@@ -7,8 +7,11 @@
 //!      ^                                                                |
 //!      +------------------ a sweep, before what is put in --------------+
 //! ```
+//!
+//! - `specs/Ways`: how far the slice of a number is, and what each act may make of it
+//! - `specs/Lists`: how a number comes to be handed or freed, and how long it stays so
 #![tactic(auto)]
 
 mod laws;
 
-pub use laws::numbers_go_one_way;
+pub use laws::{freed_by_frees, freed_stays, handed_by_receives, handed_stays, numbers_go_one_way};
