@@ -1,3 +1,4 @@
+pub mod Answered
 pub mod Home
 pub mod Left
 pub mod Lists

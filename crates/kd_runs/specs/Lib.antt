@@ -7,5 +7,7 @@ pub mod Left
 pub mod Reached
 -- what visits and publishings meet
 pub mod Met
+-- replies to commands
+pub mod Answered
 -- the world, the desk and the pools along lists, and with one event more
 pub mod Lists

@@ -1,6 +1,7 @@
 //! What holds of every list of legal events. Nothing is run here; each function's contract is a
 //! law.
 
+ghost use Rattle.kd_runs.specs.Answered.{LeaversAreAnswered, VisitsWantNoMemory};
 ghost use Rattle.kd_runs.specs.Left.{LeaversHaveVisited, NobodyIsLeftOut, VisitedAreAll};
 ghost use Rattle.kd_runs.specs.Lists.{AddressedWithOneMore, DeskIsAlong, DeskWithOneMore, HoldWithOneMore, PoolsAreAlong, WorldsGoOn};
 ghost use Rattle.kd_runs.specs.Met.{HoldersVisitFew, PublishesAreReserved, VisitsMeetPools};
@@ -97,4 +98,15 @@ pub fn the_desk_is_along()
 /// Each pool is always what was done to it makes of a closed one.
 pub fn the_pools_are_along()
     ensures { PoolsAreAlong }
+{}
+
+/// No pool answers a visit by want of memory.
+pub fn visits_want_no_memory()
+    ensures { VisitsWantNoMemory }
+{}
+
+/// Whoever holds the desk is answered by one of its command's replies, however the pools answered
+/// its visits.
+pub fn leavers_are_answered()
+    ensures { LeaversAreAnswered }
 {}
