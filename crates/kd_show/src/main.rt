@@ -57,4 +57,3 @@ fn main(rt: HostRuntime) -> io::Result<ExitCode> {
     }
     Ok(ExitCode::from(end.number()))
 }
-

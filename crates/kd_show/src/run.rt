@@ -1,6 +1,6 @@
 //! A run over frames, replies or lines.
 
-ghost use Rattle.std.specs.Prelude.{◌≡◌, ◌↔◌, ◌≤◌, length};
+ghost use Rattle.std.specs.Prelude.{◌≡◌, ◌≢◌, ◌↔◌, ◌≤◌, length};
 ghost use Rattle.kd_outside.specs.Causes.{Rose};
 ghost use Rattle.kd_show.specs.Words.{AskForNothing};
 ghost use Rattle.kd_show.specs.Ends.{WorksSo, IsEnd};
@@ -18,6 +18,7 @@ fn work_over<K: Sink>(alloc: Global, work: Work, bytes: &[u8], sink: &mut K) -> 
     requires { length bytes.now ≤ 16777216 }
     ensures worked { WorksSo work bytes.now (K.held sink.old) (K.held sink.new) result }
     ensures fault { result ≡ End.WriteFault → Rose (K.faults sink.old) (K.faults sink.new) }
+    ensures words { result ≢ End.BadWords }
 {
     match work {
         Work::Show(kind) => show(alloc, kind, bytes, sink),
@@ -30,6 +31,7 @@ fn work_over<K: Sink>(alloc: Global, work: Work, bytes: &[u8], sink: &mut K) -> 
 ///
 /// The words are those that follow the program's name. Each end says in [`End`] why it came; the
 /// clauses say when it can.
+#[tactic(auto, using(crate::proofs::Asked::something))]
 pub fn show_run<S: Source, K: Sink>(
     alloc: Global,
     words: &[&str],

@@ -123,7 +123,10 @@ fn bytes_that_are_cut_end_at_the_last_whole_frame(rt: HostRuntime) -> Result<(),
             _ => (End::BadFrame { at: 40 }, "c1 RECV\n"),
         };
         assert_eq!(rt; lines.end, end, "of {size} bytes");
-        assert!(rt; lines.written.as_slice() == text.as_bytes(), "of {size} bytes");
+        assert!(rt;
+            lines.written.as_slice() == text.as_bytes(),
+            "of {size} bytes"
+        );
     }
     Ok(())
 }
