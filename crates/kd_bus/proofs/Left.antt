@@ -41,7 +41,7 @@ use Rattle.kd_bus.specs.Sight.{IsIdle}
 use Rattle.kd_bus.specs.Leaving.{Leaves, all_pending, becomes, left_as, parts_asked}
 use Rattle.kd_bus.specs.Visited.{HasDesk, HasSeat, VisitedAll, answers_in, entries_at, pendings_by}
 use Rattle.kd_bus.proofs.Alone.{PassedIt}
-use Rattle.kd_bus.proofs.Pending.{pendings_same}
+use Rattle.kd_bus.proofs.Placing.{pendings_same}
 
 -- what can be visited has a seat
 one_seat : (p : code.Part) → IsVisitable p → HasSeat p

@@ -3,6 +3,6 @@ pub mod Kept
 pub mod Opening
 pub mod Holding
 pub mod Going
-pub mod Pending
+pub mod Placing
 pub mod Planned
 pub mod Left

@@ -1,7 +1,7 @@
 -- One part after the other.
 use Rattle.std.proofs.Common.{◌+◌, arith, subst, sym}
 use Rattle.kd_desk.specs.Drafts.{Draft}
-use Rattle.kd_bus.proofs.Pending.{IsKeeping, keeps_all, keeps_more}
+use Rattle.kd_bus.proofs.Placing.{IsKeeping, keeps_all, keeps_more}
 use Rattle.kd_bus.proofs.pendings.keep_all.Goals as goal
 
 pub outs-preserved : goal.outs-preserved

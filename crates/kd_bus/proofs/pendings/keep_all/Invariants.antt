@@ -1,6 +1,6 @@
 -- There is room for all that is left.
 use Rattle.std.proofs.Common.{◌≤◌, ◌+◌, length, vec_capacity, vec_len}
-use Rattle.kd_bus.proofs.Pending.{IsKeeping}
+use Rattle.kd_bus.proofs.Placing.{IsKeeping}
 use Rattle.kd_bus.proofs.pendings.keep_all.Given as goal
 
 abbrev pub invariant-outs : goal.invariant-outs
