@@ -126,38 +126,3 @@ fn is_used(chain: &Chain, size: u32, number: u32) -> bool
 {
     chain.span(number).len > 0
 }
-
-#[cfg(test)]
-mod tests {
-    use super::Links;
-    use kd_model::{NoPlace, SliceBook, SliceNo};
-    use std::test::Fail;
-
-    /// Takes a slice back if the number is placed, and tells whether it was.
-    fn give_back_placed<B: SliceBook>(book: &mut B, number: SliceNo) -> bool {
-        let placed = book.at(number).is_some();
-        if placed {
-            book.give_back(number);
-        }
-        placed
-    }
-
-    #[test]
-    fn ranges_that_are_given_back_are_used_again(rt: HostRuntime) -> Result<(), Fail> {
-        let mut book = Links::make(rt.alloc(), 256)?;
-        assert_eq!(rt; book.place(64), Ok((SliceNo(0), 0)));
-        assert_eq!(rt; book.place(64), Ok((SliceNo(1), 64)));
-        assert_eq!(rt; book.place(64), Ok((SliceNo(2), 128)));
-        assert!(rt; give_back_placed(&mut book, SliceNo(0)));
-        assert_eq!(rt; book.place(64), Ok((SliceNo(0), 0)));
-        assert!(rt; give_back_placed(&mut book, SliceNo(1)));
-        assert_eq!(rt; book.place(56), Ok((SliceNo(1), 64)));
-        assert_eq!(rt; book.place(8), Ok((SliceNo(3), 120)));
-        assert_eq!(rt; book.largest_gap(), 64);
-        assert_eq!(rt; book.used(), 192);
-        assert_eq!(rt; book.at(SliceNo(3)), Some((120, 8)));
-        assert_eq!(rt; book.at(SliceNo(4)), None);
-        assert_eq!(rt; book.place(72), Err(NoPlace::Full));
-        Ok(())
-    }
-}

@@ -4,7 +4,7 @@ use Rattle.std.proofs.Common.{ap, sym, ◌∙◌}
 use Rattle.kd_model.specs.declared.placed.Placed.{Placed}
 use Rattle.kd_model.specs.Slices.{Book}
 use Rattle.kd_links.proofs.Books.{found_is_placed}
-use Rattle.kd_links.proofs.links.tests.give_back_placed.Goals as goal
+use Rattle.kd_links_tests.proofs.books.give_back.Goals as goal
 
 pub give_back-requires : goal.give_back-requires
 give_back-requires g c =
