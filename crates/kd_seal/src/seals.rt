@@ -1,6 +1,6 @@
 //! The sealed payloads of all connections of a bus.
 
-ghost use Rattle.std.specs.Prelude.{◌≡◌, ◌<◌, ◌≤◌, ◌+◌, ◌-◌, ◌^◌, ◌⊎◌, ◌↔◌, [], ◌∷◌, ◌++◌, length, Err, IfErr, IfOk, IsTrue, None, OnErr, OnOk, Some, option_copied, vec_capacity, vec_len};
+ghost use Rattle.std.specs.Prelude.{◌≡◌, ◌<◌, ◌≤◌, ◌+◌, ◌-◌, ◌^◌, ◌⊎◌, ◌↔◌, ◌&&◌, ◌||◌, [], ◌∷◌, ◌++◌, length, Err, IfErr, IfOk, IsTrue, None, OnErr, OnOk, Some, nat_lt, option_copied, vec_capacity, vec_len};
 ghost use Rattle.kd_model.specs.Words.{but_those, first, some_of, those};
 ghost use Rattle.kd_seal.specs.Book.{counts, has_counted, is_seal_of, is_seal, next_in, next_number, no_seals, seal_answer, shared, unseal_answer, unsealed, with_seal, seals_without_conn};
 
@@ -80,6 +80,17 @@ impl Seals {
             });
         }
         Ok(next_number(&self.counters, id))
+    }
+
+    /// Whether there is room for one more seal of the connection, and for its counter, where it has
+    /// none yet.
+    pub fn has_room(&self, id: ConnId) -> bool
+        ensures { result
+            ≡ (nat_lt (length self.now.seals) SEALS
+            && (has_counted self.now id || nat_lt (length self.now.counters) CONNECTIONS)) }
+    {
+        self.seals.len() < SEALS
+            && (has_counter(&self.counters, id) || self.counters.len() < CONNECTIONS)
     }
 
     /// Seals the bytes under the connection's next number, with the refusals of `may_seal`. There
@@ -195,6 +206,13 @@ fn counter_of(counters: &[Counter], id: ConnId) -> Option<&Counter>
     ensures { option_copied result ≡ first (counts id) counters.now }
 {
     counters.iter().find(|counter| counter.id == id)
+}
+
+/// Whether the connection has a counter.
+fn has_counter(counters: &[Counter], id: ConnId) -> bool
+    ensures { result ≡ some_of (counts id) counters.now }
+{
+    counters.iter().any(|counter| counter.id == id)
 }
 
 /// The number of the connection's next seal.
