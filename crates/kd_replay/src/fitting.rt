@@ -1,6 +1,6 @@
 //! Whether a reply may be written.
 
-ghost use Rattle.std.specs.Prelude.{◌≤◌, ◌<◌, ◌-◌, ◌^◌, length, min, IsTrue};
+ghost use Rattle.std.specs.Prelude.{◌≤◌, ◌<◌, ◌↔◌, ◌-◌, ◌^◌, length, min, IsTrue};
 ghost use Rattle.kd_wire.specs.Replies.{IsReplyTo, listing_bytes, reply_length};
 
 use kd_types::Refusal;
@@ -36,7 +36,7 @@ pub fn is_short(reply: &Reply) -> bool
 
 /// Whether a reply is one of the command with this number.
 pub fn is_answer(command: u64, reply: &Reply) -> bool
-    ensures { IsTrue result → IsReplyTo command reply.now }
+    ensures { IsTrue result ↔ IsReplyTo command reply.now }
 {
     match reply {
         Reply::Hello { .. } => command == 1,
@@ -49,8 +49,15 @@ pub fn is_answer(command: u64, reply: &Reply) -> bool
         Reply::NameAcquire { .. } => command == 8,
         Reply::NameRelease => command == 9,
         Reply::NameList { .. } => command == 10,
+        Reply::MatchAdd => command == 11,
+        Reply::MatchRemove => command == 12,
+        Reply::PolicySet => command == 13,
+        Reply::EndpointMake => command == 14,
+        Reply::MakeBus => command == 15,
+        Reply::Tick { .. } => command == 16,
+        Reply::Seal { .. } => command == 17,
+        Reply::Unseal => command == 18,
         Reply::Enter => command == 19,
         Reply::Refused(refusal) => *refusal != Refusal::OutOfMemory,
-        _ => false,
     }
 }
