@@ -16,3 +16,6 @@ pub mod Planned
 pub mod Quiet
 pub mod Rules
 pub mod Dues
+pub mod Routed
+pub mod Shares
+pub mod Seals

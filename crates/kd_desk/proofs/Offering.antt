@@ -16,7 +16,7 @@ use Rattle.kd_desk.specs.declared.part.Part as code
 use Rattle.kd_desk.specs.declared.part.Part.TheVariants as part
 use Rattle.kd_desk.specs.Drafts.{parts_with, part_with, IsLength, IsVisitable, StandByOffers, content_at, is_offer}
 use Rattle.kd_commands.specs.Messages.{attached}
-use Rattle.kd_desk.specs.Sending.{plain_offer, when_told}
+use Rattle.kd_desk.specs.Sending.{letter_offer, when_told}
 use Rattle.kd_commands.specs.Plans.{Part}
 use Rattle.kd_commands.specs.State.{Desk}
 use Rattle.kd_desk.specs.Room.{IsSeated}
@@ -68,11 +68,11 @@ unfolding IsVisitable
 offer_fits seat user len source must m a low is = rw is (low, image_even m a)
 
 -- a part with its content, as they are made, is what is offered
-pub offered_is : (d : Desk) (s : Conn) (g : Message) (dst : ℕ) (must : Bool) (r : Conn) (a : Attached) (len : ℕ) (payload : List ℕ) (content : Content)
-    → a ≡ attached d s r → len ≡ length (image g s.id dst a) → content ≡ record { image = front g s.id dst a ++ payload; shared = None; priority = g.priority } → payload ≡ laid g.payloads
-    → part_with (Some content) (part.Offer r.seat s.creds.uid len s.id must) ≡ plain_offer d s g dst must r
-unfolding plain_offer image
-offered_is d s g dst must r a len payload content a_is len_is content_is payload_is = rw (len_is, content_is, payload_is, a_is) refl
+pub offered_is : (d : Desk) (s : Conn) (g : Message) (dst : ℕ) (must : Bool) (r : Conn) (a : Attached) (len : ℕ) (payload : List ℕ) (share : Option (List ℕ)) (content : Content)
+    → a ≡ attached d s r → len ≡ length (image g s.id dst a) → content ≡ record { image = front g s.id dst a ++ payload; shared = share; priority = g.priority } → payload ≡ laid g.payloads
+    → part_with (Some content) (part.Offer r.seat s.creds.uid len s.id must) ≡ letter_offer d s g share dst must r
+unfolding letter_offer image
+offered_is d s g dst must r a len payload share content a_is len_is content_is payload_is = rw (len_is, content_is, payload_is, a_is) refl
 
 told_one : (f : Conn → Part) (x : Conn) (b : Bool) → when_told b (f x) ≡ map f (cond b (x ∷ []) [])
 told_one f x true = refl

@@ -1,5 +1,5 @@
--- What a message without sealed bytes comes to.
-use Rattle.std.proofs.Common.{◌≡◌, ◌≢◌, ◌==◌, ℕ, Bool, true, false, not, ◌&&◌, is_some, List, [], ◌∷◌, ◌++◌, length, map, Option, Some, None, Result, Ok, Err, IsErr, IsErrAnd, nat_lt, refl, sym, ap, ◌∙◌}
+-- What a message comes to.
+use Rattle.std.proofs.Common.{◌≡◌, ◌≢◌, ◌==◌, ℕ, Bool, true, false, not, ◌&&◌, is_some, List, [], ◌∷◌, ◌++◌, length, map, Option, Some, None, Result, Ok, Err, IsErr, IsErrAnd, refl, sym, ap, ◌∙◌}
 use Rattle.std.specs.List.{AllByRecursion}
 use Rattle.kd_types.specs.declared.refusal.Refusal.{Refusal}
 use Rattle.kd_types.specs.declared.refusal.Refusal.TheVariants as why
@@ -15,13 +15,12 @@ use Rattle.kd_image.specs.Images.{any}
 use Rattle.kd_commands.specs.Items.{Filter, destination_name, filter_among}
 use Rattle.kd_commands.specs.Audience.{audience, broadcast}
 use Rattle.kd_commands.specs.Send.{asker_of, fits_filters, has_bad_cookie, is_misuse, is_reply, offered_to, receiver, refusals_by, refusals_of_unicast, requests_after, send_parts, send_refusals, send, some_passes}
-use Rattle.kd_commands.specs.Messages.{expects, is_broadcast, message_of, plain_length}
+use Rattle.kd_commands.specs.Messages.{expects, is_broadcast, message_of, share_in}
 use Rattle.kd_commands.specs.Plans.{Plan, itself, unless}
 use Rattle.kd_desk.specs.declared.change.Change.{Change}
 use Rattle.kd_desk.specs.declared.change.Change.TheVariants as change
 use Rattle.kd_desk.specs.Drafts.{PlanResult, Draft, Fits, IsVisitable, StandByOffers, applied, drafted, parts_with}
-use Rattle.kd_desk.specs.Sending.{change_of, AreUnsealed, Judges, plain_offer, refusals_of_bytes, refusals_of_form, refusals_of_way}
-use Rattle.kd_desk.proofs.Sorted.{no_seal}
+use Rattle.kd_desk.specs.Sending.{change_of, Judges, MayAsk, letter_offer, refusals_of_bytes, refusals_of_form, refusals_of_way}
 
 never : {X : Type 0} → false ≡ true → X
 never e = absurd cc
@@ -32,7 +31,7 @@ first_holds [] us x e = absurd cc
 first_holds ((true, y) ∷ ts) us x e = e
 first_holds ((false, y) ∷ ts) us x e = first_holds ts us x e
 
-first_passes : {X : Type 0} (ts us : List (Bool × X)) → first_that_holds ts ≡ None → first_that_holds (ts ++ us) ≡ first_that_holds us
+pub first_passes : {X : Type 0} (ts us : List (Bool × X)) → first_that_holds ts ≡ None → first_that_holds (ts ++ us) ≡ first_that_holds us
 first_passes [] us e = refl
 first_passes ((true, y) ∷ ts) us e = absurd cc
 first_passes ((false, y) ∷ ts) us e = first_passes ts us e
@@ -52,26 +51,20 @@ pub form_refuses : (d : Desk) (s : Conn) (m : Sent) (e : Refusal) → first_that
 unfolding send
 form_refuses d s m e judged = unless_refused (send_refusals d s m) _ e (ap first_that_holds (refusals_are d s m) ∙ first_holds (refusals_of_form d s m) (refusals_of_bytes d s m ++ refusals_of_way d s m) e judged)
 
-long_holds : (d : Desk) (s : Conn) (m : Sent) → nat_lt 65536 (plain_length m) ≡ true → first_that_holds (refusals_of_bytes d s m) ≡ Some why.TooLong
-long_holds d s m long = rw long refl
-
-pub too_long : (d : Desk) (s : Conn) (m : Sent) → first_that_holds (refusals_of_form d s m) ≡ None → nat_lt 65536 (plain_length m) ≡ true → send d s m ≡ Err why.TooLong
+pub bytes_refuse : (d : Desk) (s : Conn) (m : Sent) (e : Refusal) → first_that_holds (refusals_of_form d s m) ≡ None → first_that_holds (refusals_of_bytes d s m) ≡ Some e → send d s m ≡ Err e
 unfolding send
-too_long d s m form long = unless_refused (send_refusals d s m) _ why.TooLong (
+bytes_refuse d s m e form judged = unless_refused (send_refusals d s m) _ e (
     ap first_that_holds (refusals_are d s m)
     ∙ first_passes (refusals_of_form d s m) (refusals_of_bytes d s m ++ refusals_of_way d s m) form
-    ∙ first_holds (refusals_of_bytes d s m) (refusals_of_way d s m) why.TooLong (long_holds d s m long)
+    ∙ first_holds (refusals_of_bytes d s m) (refusals_of_way d s m) e judged
     )
 
-bytes_pass : (d : Desk) (s : Conn) (m : Sent) → nat_lt 65536 (plain_length m) ≡ false → AreUnsealed m.items → first_that_holds (refusals_of_bytes d s m) ≡ None
-bytes_pass d s m long u = rw (long, no_seal 0 m.items u) refl
-
 -- what passes so far is judged by whom it is for
-judged_by_way : (d : Desk) (s : Conn) (m : Sent) → first_that_holds (refusals_of_form d s m) ≡ None → nat_lt 65536 (plain_length m) ≡ false → AreUnsealed m.items → first_that_holds (send_refusals d s m) ≡ first_that_holds (refusals_of_way d s m)
-judged_by_way d s m form long u =
+judged_by_way : (d : Desk) (s : Conn) (m : Sent) → first_that_holds (refusals_of_form d s m) ≡ None → first_that_holds (refusals_of_bytes d s m) ≡ None → first_that_holds (send_refusals d s m) ≡ first_that_holds (refusals_of_way d s m)
+judged_by_way d s m form bytes =
     ap first_that_holds (refusals_are d s m)
     ∙ first_passes (refusals_of_form d s m) (refusals_of_bytes d s m ++ refusals_of_way d s m) form
-    ∙ first_passes (refusals_of_bytes d s m) (refusals_of_way d s m) (bytes_pass d s m long u)
+    ∙ first_passes (refusals_of_bytes d s m) (refusals_of_way d s m) bytes
 
 to_one : (d : Desk) (s : Conn) (m : Sent) → is_broadcast m ≡ false → refusals_of_way d s m ≡ refusals_of_unicast d s m
 to_one d s m one = rw (refusals_of_way, one) refl
@@ -79,22 +72,22 @@ to_one d s m one = rw (refusals_of_way, one) refl
 to_all : (d : Desk) (s : Conn) (m : Sent) → is_broadcast m ≡ true → refusals_of_way d s m ≡ []
 to_all d s m all = rw (refusals_of_way, all) refl
 
-pub refused : (d : Desk) (s : Conn) (m : Sent) (e : Refusal) → first_that_holds (refusals_of_form d s m) ≡ None → nat_lt 65536 (plain_length m) ≡ false → AreUnsealed m.items → is_broadcast m ≡ false → first_that_holds (refusals_of_unicast d s m) ≡ Some e → send d s m ≡ Err e
+pub refused : (d : Desk) (s : Conn) (m : Sent) (e : Refusal) → first_that_holds (refusals_of_form d s m) ≡ None → first_that_holds (refusals_of_bytes d s m) ≡ None → is_broadcast m ≡ false → first_that_holds (refusals_of_unicast d s m) ≡ Some e → send d s m ≡ Err e
 unfolding send
-refused d s m e form long u one judged = unless_refused (send_refusals d s m) _ e (judged_by_way d s m form long u ∙ ap first_that_holds (to_one d s m one) ∙ judged)
+refused d s m e form bytes one judged = unless_refused (send_refusals d s m) _ e (judged_by_way d s m form bytes ∙ ap first_that_holds (to_one d s m one) ∙ judged)
 
 sent : (d : Desk) (s : Conn) (m : Sent) → first_that_holds (send_refusals d s m) ≡ None
     → send d s m ≡ Ok (record { parts = send_parts d s m; reply = reply.Send; next = record d { requests = requests_after d s m }; becomes = itself s })
 unfolding send
 sent d s m judged = unless_fine (send_refusals d s m) _ judged
 
-offered_same : (d : Desk) (s : Conn) (m : Sent) (dst : ℕ) (must : Bool) (r : Conn) → AreUnsealed m.items → offered_to d s m dst must r ≡ plain_offer d s (message_of m) dst must r
-unfolding plain_offer
-offered_same d s m dst must r u = rw (no_seal 0 m.items u) refl
+offered_same : (d : Desk) (s : Conn) (m : Sent) (dst : ℕ) (must : Bool) (r : Conn) → offered_to d s m dst must r ≡ letter_offer d s (message_of m) (share_in d s m) dst must r
+unfolding letter_offer
+offered_same d s m dst must r = refl
 
-offers_are : (d : Desk) (s : Conn) (m : Sent) (dst : ℕ) (must : Bool) (rs : List Conn) → AreUnsealed m.items → map (offered_to d s m dst must) rs ≡ map (plain_offer d s (message_of m) dst must) rs
-offers_are d s m dst must [] u = refl
-offers_are d s m dst must (r ∷ rs) u = rw (offered_same d s m dst must r u, offers_are d s m dst must rs u) refl
+offers_are : (d : Desk) (s : Conn) (m : Sent) (dst : ℕ) (must : Bool) (rs : List Conn) → map (offered_to d s m dst must) rs ≡ map (letter_offer d s (message_of m) (share_in d s m) dst must) rs
+offers_are d s m dst must [] = refl
+offers_are d s m dst must (r ∷ rs) = rw (offered_same d s m dst must r, offers_are d s m dst must rs) refl
 
 -- a plan of the code that has the parts, and changes the requests so
 same_plan : (d : Desk) (s : Conn) (m : Sent) (p : Draft) → send_parts d s m ≡ parts_with p.contents p.parts → record d { requests = requests_after d s m } ≡ applied p.change d → p.reply ≡ reply.Send → p.after ≡ itself s
@@ -104,29 +97,37 @@ same_plan d s m p parts next says after = rw (parts, next, says, after) refl
 
 -- ---- to one receiver
 
-requests_are : (d : Desk) (s : Conn) (m : Sent) (b : Bool) → expects m ≡ false → is_reply d s m ≡ b → record d { requests = requests_after d s m } ≡ applied (change_of d m b) d
+requests_are : (d : Desk) (s : Conn) (m : Sent) (r : Conn) (b : Bool) → receiver d m ≡ Some r → is_reply d s m ≡ b → record d { requests = requests_after d s m } ≡ applied (change_of d s m (Some r) b) d
 unfolding requests_after applied
-requests_are d s m true quiet e = rw (requests_after, quiet, e) refl
-requests_are d s m false quiet e = rw (requests_after, quiet, e) refl
+requests_are d s m r b reached e = by (expects m) refl b e
+  where
+    by : (x : Bool) → expects m ≡ x → (b : Bool) → is_reply d s m ≡ b → record d { requests = requests_after d s m } ≡ applied (change_of d s m (Some r) b) d
+    by true x b e = rw (requests_after, applied, x, reached) refl
+    by false x true e = rw (requests_after, applied, x, e) refl
+    by false x false e = rw (requests_after, applied, x, e) refl
 
-parts_are : (d : Desk) (s : Conn) (m : Sent) (r : Conn) → AreUnsealed m.items → is_broadcast m ≡ false → receiver d m ≡ Some r
-    → send_parts d s m ≡ plain_offer d s (message_of m) r.id true r ∷ map (plain_offer d s (message_of m) r.id false) (monitors d)
+parts_are : (d : Desk) (s : Conn) (m : Sent) (r : Conn) → is_broadcast m ≡ false → receiver d m ≡ Some r
+    → send_parts d s m ≡ letter_offer d s (message_of m) (share_in d s m) r.id true r ∷ map (letter_offer d s (message_of m) (share_in d s m) r.id false) (monitors d)
 unfolding send_parts
-parts_are d s m r u one reached = rw (send_parts, one, reached, offered_same d s m r.id true r u, offers_are d s m r.id false (monitors d) u) refl
+parts_are d s m r one reached = rw (send_parts, one, reached, offered_same d s m r.id true r, offers_are d s m r.id false (monitors d)) refl
 
-fits : (d : Desk) (m : Sent) (b : Bool) → Fits d (change_of d m b)
+fits : (d : Desk) (s : Conn) (m : Sent) (r : Conn) (b : Bool) → MayAsk d s m → Fits d (change_of d s m (Some r) b)
 unfolding Fits
-fits d m true = tt
-fits d m false = tt
+fits d s m r b may = by (expects m) refl b
+  where
+    by : (x : Bool) → expects m ≡ x → (b : Bool) → Fits d (change_of d s m (Some r) b)
+    by true x b = rw (Fits, x) (may x)
+    by false x true = rw (Fits, x) tt
+    by false x false = rw (Fits, x) tt
 
-pub planned : (d : Desk) (s : Conn) (m : Sent) (r : Conn) (b : Bool) (p : Draft) → AreUnsealed m.items → expects m ≡ false → is_broadcast m ≡ false → first_that_holds (refusals_of_form d s m) ≡ None → nat_lt 65536 (plain_length m) ≡ false
+pub planned : (d : Desk) (s : Conn) (m : Sent) (r : Conn) (b : Bool) (p : Draft) → MayAsk d s m → is_broadcast m ≡ false → first_that_holds (refusals_of_form d s m) ≡ None → first_that_holds (refusals_of_bytes d s m) ≡ None
     → first_that_holds (refusals_of_unicast d s m) ≡ None → receiver d m ≡ Some r → is_reply d s m ≡ b
-    → parts_with p.contents p.parts ≡ plain_offer d s (message_of m) r.id true r ∷ map (plain_offer d s (message_of m) r.id false) (monitors d)
-    → AllByRecursion IsVisitable p.parts → StandByOffers p.contents p.parts → p.reply ≡ reply.Send → p.change ≡ change_of d m b → p.after ≡ itself s → PlanResult d (send d s m) (Ok p)
-planned d s m r b p u quiet one form long judged reached replies parts visitable contents says change after = (
-  sent d s m (judged_by_way d s m form long u ∙ ap first_that_holds (to_one d s m one) ∙ judged)
-      ∙ ap Ok (same_plan d s m p (parts_are d s m r u one reached ∙ sym parts) (requests_are d s m b quiet replies ∙ ap (λ (c : Change). applied c d) (sym change)) says after),
-  rw change (fits d m b),
+    → parts_with p.contents p.parts ≡ letter_offer d s (message_of m) (share_in d s m) r.id true r ∷ map (letter_offer d s (message_of m) (share_in d s m) r.id false) (monitors d)
+    → AllByRecursion IsVisitable p.parts → StandByOffers p.contents p.parts → p.reply ≡ reply.Send → p.change ≡ change_of d s m (Some r) b → p.after ≡ itself s → PlanResult d (send d s m) (Ok p)
+planned d s m r b p may one form bytes judged reached replies parts visitable contents says change after = (
+  sent d s m (judged_by_way d s m form bytes ∙ ap first_that_holds (to_one d s m one) ∙ judged)
+      ∙ ap Ok (same_plan d s m p (parts_are d s m r one reached ∙ sym parts) (requests_are d s m r b reached replies ∙ ap (λ (c : Change). applied c d) (sym change)) says after),
+  rw change (fits d s m r b may),
   visitable,
   contents,
 )
@@ -169,20 +170,20 @@ nothing_changes : (d : Desk) (qs : List Request) → qs ≡ d.requests → recor
 unfolding applied
 nothing_changes d qs e = rw e refl
 
-broadcast_parts_are : (d : Desk) (s : Conn) (m : Sent) (f : Filter) → AreUnsealed m.items → is_broadcast m ≡ true → filter_among m.items ≡ Some f
-    → send_parts d s m ≡ map (plain_offer d s (message_of m) any false) (audience d (broadcast s f))
+broadcast_parts_are : (d : Desk) (s : Conn) (m : Sent) (f : Filter) → is_broadcast m ≡ true → filter_among m.items ≡ Some f
+    → send_parts d s m ≡ map (letter_offer d s (message_of m) (share_in d s m) any false) (audience d (broadcast s f))
 unfolding send_parts
-broadcast_parts_are d s m f u all some = rw (send_parts, all, some, offers_are d s m any false (audience d (broadcast s f)) u) refl
+broadcast_parts_are d s m f all some = rw (send_parts, all, some, offers_are d s m any false (audience d (broadcast s f))) refl
 
-pub broadcast_planned : (d : Desk) (s : Conn) (m : Sent) (f : Filter) (p : Draft) → AreUnsealed m.items → is_broadcast m ≡ true → first_that_holds (refusals_of_form d s m) ≡ None → nat_lt 65536 (plain_length m) ≡ false → filter_among m.items ≡ Some f
-    → parts_with p.contents p.parts ≡ map (plain_offer d s (message_of m) any false) (audience d (broadcast s f))
+pub broadcast_planned : (d : Desk) (s : Conn) (m : Sent) (f : Filter) (p : Draft) → is_broadcast m ≡ true → first_that_holds (refusals_of_form d s m) ≡ None → first_that_holds (refusals_of_bytes d s m) ≡ None → filter_among m.items ≡ Some f
+    → parts_with p.contents p.parts ≡ map (letter_offer d s (message_of m) (share_in d s m) any false) (audience d (broadcast s f))
     → AllByRecursion IsVisitable p.parts → StandByOffers p.contents p.parts → p.reply ≡ reply.Send → p.change ≡ change.Nothing → p.after ≡ itself s → PlanResult d (send d s m) (Ok p)
 unfolding Fits
-broadcast_planned d s m f p u all form long some parts visitable contents says stays after =
+broadcast_planned d s m f p all form bytes some parts visitable contents says stays after =
     let fine = (three_pass (has_bad_cookie d s m) (is_misuse m) (is_broadcast m && not (fits_filters d m)) why.BadCookie why.BroadcastMisuse why.BloomSize form).0 in
     let stay : record d { requests = requests_after d s m } ≡ applied change.Nothing d = nothing_changes d (requests_after d s m) (requests_stay d s m all (unexpecting d s m all fine)) in (
-      sent d s m (judged_by_way d s m form long u ∙ ap first_that_holds (to_all d s m all))
-          ∙ ap Ok (same_plan d s m p (broadcast_parts_are d s m f u all some ∙ sym parts) (stay ∙ ap (λ (c : Change). applied c d) (sym stays)) says after),
+      sent d s m (judged_by_way d s m form bytes ∙ ap first_that_holds (to_all d s m all))
+          ∙ ap Ok (same_plan d s m p (broadcast_parts_are d s m f all some ∙ sym parts) (stay ∙ ap (λ (c : Change). applied c d) (sym stays)) says after),
       rw stays tt,
       visitable,
       contents,

@@ -1,13 +1,13 @@
 -- The payloads of a message, item by item.
-use Rattle.std.proofs.Common.{◌≡◌, ℕ, ◌+◌, List, [], ◌∷◌, ◌++◌, Option, None, refl, ap, ◌∙◌}
-use Rattle.std.specs.Prelude.{ℤ}
+use Rattle.std.proofs.Common.{◌≡◌, ℕ, List, [], ◌∷◌, ◌++◌, Option, refl, ap, ◌∙◌}
+use Rattle.std.specs.Prelude.{ℤ, option_map}
 use Rattle.std.proofs.lemmas.List.{append-nil}
+use Rattle.kd_image.specs.declared.message.SealedRange.{SealedRange}
 use Rattle.kd_wire.specs.declared.item.WireItem.{WireItem}
 use Rattle.kd_wire.specs.declared.item.WireItem.TheVariants as item
 use Rattle.kd_commands.specs.declared.sent.Sent.{Sent}
-use Rattle.kd_commands.specs.Items.{destination_name, payloads, seal_behind}
+use Rattle.kd_commands.specs.Items.{Named, destination_name, payloads, sealed_among}
 use Rattle.kd_commands.specs.Messages.{message_of}
-use Rattle.kd_desk.specs.Sending.{AreUnsealed}
 
 -- payloads behind others
 pub payloads_behind : (xs ys : List WireItem) → payloads (xs ++ ys) ≡ payloads xs ++ payloads ys
@@ -20,13 +20,6 @@ pub no_piece : (x : WireItem) → ((bytes : List ℕ) → x ≡ item.Payload byt
 no_piece (item.Payload bytes) never = absurd (never bytes refl)
 no_piece x never = refl
 
--- items without sealed bytes name no seal
-pub no_seal : (place : ℕ) (is : List WireItem) → AreUnsealed is → seal_behind place is ≡ None
-no_seal place [] u = refl
-no_seal place (item.Payload bytes ∷ is) u = no_seal (place + 1) is u
-no_seal place (item.Sealed number start len ∷ is) u = absurd cc
-no_seal place (x ∷ is) u = no_seal place is u
-
 -- one item more that adds no payload
 pub pieces_stay : (xs : List WireItem) (x : WireItem) (ps : List (List ℕ)) → payloads (x ∷ []) ≡ [] → payloads xs ≡ ps → payloads (xs ++ x ∷ []) ≡ ps
 pieces_stay xs x ps never is = payloads_behind xs (x ∷ []) ∙ ap (λ (l : List (List ℕ)). payloads xs ++ l) never ∙ append-nil (payloads xs) ∙ is
@@ -35,7 +28,8 @@ pieces_stay xs x ps never is = payloads_behind xs (x ∷ []) ∙ ap (λ (l : Lis
 pub pieces_more : (xs : List WireItem) (x : WireItem) (ps : List (List ℕ)) (bytes : List ℕ) → payloads xs ≡ ps → x ≡ item.Payload bytes → payloads (xs ++ x ∷ []) ≡ ps ++ bytes ∷ []
 pieces_more xs x ps bytes is said = payloads_behind xs (x ∷ []) ∙ rw (is, said) refl
 
--- the message of items without sealed bytes
-pub message_is : (m : Sent) (priority : ℤ) (name : Option (List ℕ)) (pieces : List (List ℕ)) → AreUnsealed m.items → priority ≡ m.priority → name ≡ destination_name m.items → pieces ≡ payloads m.items
-    → record { flags = m.flags; priority = priority; payload_type = m.payload_type; cookie = m.cookie; last = m.last; dst_name = name; payloads = pieces; sealed = None } ≡ message_of m
-message_is m priority name pieces u p n q = rw (p, n, q, no_seal 0 m.items u) refl
+-- the message of what was handed in
+pub message_is : (m : Sent) (priority : ℤ) (name : Option (List ℕ)) (pieces : List (List ℕ)) (range : Option SealedRange) → priority ≡ m.priority → name ≡ destination_name m.items → pieces ≡ payloads m.items
+    → range ≡ option_map (λ (n : Named). n.range) (sealed_among m.items)
+    → record { flags = m.flags; priority = priority; payload_type = m.payload_type; cookie = m.cookie; last = m.last; dst_name = name; payloads = pieces; sealed = range } ≡ message_of m
+message_is m priority name pieces range p n q r = rw (p, n, q, r) refl

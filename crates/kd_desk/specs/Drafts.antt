@@ -1,13 +1,13 @@
 -- The plans of the code, beside those of the definitions.
-use Rattle.std.specs.Prelude.{◌≡◌, ◌<◌, ◌+◌, ◌-◌, ◌^◌, ◌%◌, ℕ, Bool, true, false, is_some, List, [], ◌∷◌, length, map, Option, None, Result, Ok, Err, get_or, set, unwrap_or, pos}
+use Rattle.std.specs.Prelude.{◌≡◌, ◌⊎◌, ◌<◌, ◌≤◌, ◌+◌, ◌-◌, ◌^◌, ◌%◌, ℕ, Bool, true, false, is_some, IsTrue, List, [], ◌∷◌, length, map, Option, None, Result, Ok, Err, get_or, set, unwrap_or, pos}
 use Rattle.std.specs.List.{AllByRecursion}
 use Rattle.kd_types.specs.declared.refusal.Refusal.{Refusal}
 use Rattle.kd_model.specs.Words.{but_those, put_in_order}
 use Rattle.kd_wire.specs.declared.reply.Reply.{Reply}
 use Rattle.kd_registry.specs.Claims.{asked, release_answer}
 use Rattle.kd_match.specs.Rules.{rule_refusal, remove_refusal, rules_left, with_rule, without_rules}
-use Rattle.kd_seal.specs.Book.{unseal_answer, unsealed}
-use Rattle.kd_replies.specs.Requests.{is_due, request_waits}
+use Rattle.kd_seal.specs.Book.{has_counted, next_number, seal_answer, unseal_answer, unsealed, with_seal}
+use Rattle.kd_replies.specs.Requests.{expect_answer, expecting, is_due, request_waits}
 use Rattle.kd_acts.specs.State.{Content, raise, close, offer, post, drain, settle}
 use Rattle.kd_commands.specs.declared.who.WhoKind.{WhoKind}
 use Rattle.kd_desk.specs.declared.part.Part as code
@@ -89,11 +89,13 @@ applied (change.Arrives c) d = record d {
 }
 applied (change.Leaves id) d = without_conns d (id ∷ [])
 applied (change.Unblocks seat) d = unblocked seat d
+applied (change.Expects q) d = record d { requests = expecting q d.requests }
 applied (change.Answers asker cookie) d = record d {
   requests = but_those (request_waits asker cookie) d.requests;
 }
 applied (change.Acquires id flags n verdict) d = with_claim d id flags n verdict
 applied (change.Releases id n) d = without_claim d id n
+applied (change.Seals id bytes) d = record d { seals = with_seal d.seals id bytes }
 applied (change.Unseals id number) d = record d { seals = unsealed d.seals id number }
 applied (change.AddsRule id cookie conditions replace) d = record d {
   rules =
@@ -118,12 +120,22 @@ drafted d p = record {
   becomes = p.after;
 }
 
+-- the connection may seal so many bytes, for which the tables have room
+pub record MaySeal (d : Desk) (id len : ℕ) : Type 0 where
+  pub answer : (number : ℕ) × (seal_answer d.seals id len ≡ Ok number)
+  pub seals : length d.seals.seals < 1024
+  pub counters : IsTrue (has_counted d.seals id) ⊎ (length d.seals.counters < 64)
+  pub numbers : next_number d.seals id ≤ 2 ^ 63 - 1
+
 -- the desk can make the change without memory
 unfoldable pub Fits : Desk → Change → Type 0
 Fits d (change.Arrives c) = (length d.conns < 64) × (c.seat < 64) × (d.next_id < 2 ^ 64 - 1)
+Fits d (change.Expects q) =
+    (expect_answer q.asker q.cookie d.requests ≡ Ok tt) × (length d.requests < 8192)
 Fits d (change.Acquires id flags n verdict) =
     (asked d.registry id n flags ≡ Ok verdict) × (length d.registry < 4160)
 Fits d (change.Releases id n) = (owner : ℕ) × (release_answer d.registry id n ≡ Ok owner)
+Fits d (change.Seals id bytes) = MaySeal d id (length bytes)
 Fits d (change.Unseals id number) = unseal_answer d.seals id number ≡ Ok tt
 Fits d (change.AddsRule id cookie conditions replace) =
     (rule_refusal d.rules id cookie conditions.items replace ≡ None)

@@ -2,10 +2,7 @@
 use Rattle.std.specs.Prelude.{ℕ, Bool, true, false, not, ◌&&◌, ◌||◌, List, ◌==◌, Some, None, Result, Ok, Err, is_none, is_some}
 use Rattle.kd_types.specs.declared.refusal.Refusal.{Refusal}
 use Rattle.kd_types.specs.declared.refusal.Refusal.TheVariants.{Unsupported}
-use Rattle.kd_types.specs.Flags.{has_bits}
-use Rattle.kd_model.specs.Words.{all_of, is_empty, first_that_holds}
-use Rattle.kd_wire.specs.declared.item.WireItem.{WireItem}
-use Rattle.kd_wire.specs.declared.item.WireItem.TheVariants as item
+use Rattle.kd_model.specs.Words.{is_empty, first_that_holds}
 use Rattle.kd_wire.specs.declared.command.Command.{Command}
 use Rattle.kd_wire.specs.declared.command.Command.TheVariants as cmd
 use Rattle.kd_wire.specs.Commands.{opcode_in}
@@ -17,29 +14,17 @@ use Rattle.kd_commands.specs.State.{Desk, conn_of, is_ordinary}
 use Rattle.kd_registry.specs.Claims.{asked}
 use Rattle.kd_registry.specs.declared.claim.Verdict.{Verdict}
 use Rattle.kd_types.specs.declared.flags.NameFlags.{NameFlags}
-use Rattle.kd_types.specs.declared.flags.SendFlags.{SendFlags}
 use Rattle.kd_commands.specs.declared.conn.Conn.{Conn}
-use Rattle.kd_image.specs.Images.{any}
 use Rattle.kd_commands.specs.Names.{activator_in, acquire_refusals, name_acquire}
 use Rattle.kd_commands.specs.Plans.{Plan}
 use Rattle.kd_commands.specs.Step.{plan, from_conn}
 
--- not a range of sealed bytes
-abbrev pub is_unsealed : WireItem → Bool
-is_unsealed (item.Sealed number start len) = false
-is_unsealed _ = true
-
--- it has no sealed bytes, and expects no reply where it is for one receiver
-abbrev pub is_run_send : SendFlags → ℕ → List WireItem → Bool
-is_run_send flags dst is = (dst == any || not (has_bits flags.0 1)) && all_of is_unsealed is
-
--- ordinary connections on the default endpoint; messages without sealed bytes, of which no reply is
--- expected; names, rules, the moment, and what is sealed
+-- ordinary connections on the default endpoint; messages, names, rules, the moment, and what is
+-- sealed
 unfoldable pub is_planned : Command → Bool
 is_planned (cmd.Hello flags size send_mask receive_mask is) =
     flags.0 == 0 && is_empty is
-is_planned (cmd.Send flags priority dst source payload_type cookie last is) =
-    is_run_send flags dst is
+is_planned (cmd.Send flags priority dst source payload_type cookie last is) = true
 is_planned cmd.Byebye = true
 is_planned cmd.Close = true
 is_planned (cmd.NameAcquire flags n) = true
@@ -48,6 +33,7 @@ is_planned (cmd.NameList flags) = true
 is_planned (cmd.MatchAdd replace cookie is) = true
 is_planned (cmd.MatchRemove cookie) = true
 is_planned (cmd.Tick moment) = true
+is_planned (cmd.Seal bytes) = true
 is_planned (cmd.Unseal number) = true
 is_planned (cmd.Enter creds) = true
 is_planned _ = false

@@ -4,14 +4,14 @@ ghost use Rattle.std.specs.Prelude.{◌≡◌, length, map, false, IfErr, IfOk};
 ghost use Rattle.kd_registry.specs.Changes.{names_of};
 ghost use Rattle.kd_image.specs.Images.{any};
 ghost use Rattle.kd_commands.specs.Audience.{audience, broadcast, is_shown, is_told};
-ghost use Rattle.kd_desk.specs.Sending.{plain_offer};
+ghost use Rattle.kd_desk.specs.Sending.{letter_offer};
 
 use crate::desk::Desk;
 use crate::offers::{Letter, Offers};
 use crate::sending::ANY;
+use crate::sharing::Parcel;
 use kd_bloom::Bits;
 use kd_commands::Conn;
-use kd_image::Message;
 use kd_match::Subject;
 use kd_types::{Kind, OwnerChange, Refusal, Text};
 use std::alloc::Global;
@@ -78,20 +78,20 @@ impl Desk {
         &self,
         alloc: Global,
         sender: &Conn,
-        message: Message,
+        parcel: Parcel,
         filter: &Bits,
         generation: u64,
     ) -> Result<Offers, Refusal>
         requires filter { length filter.now ≡ self.now.rules.size }
         ensures ok { IfOk result (λ o.
             o
-            ≡ map (plain_offer self.now sender.now message any false)
+            ≡ map (letter_offer self.now sender.now parcel.message parcel.share any false)
             (audience self.now
             (broadcast sender.now (record { generation = generation; bits = filter.now })))) }
         ensures err { IfErr result (λ e. e ≡ Refusal.OutOfMemory) }
     {
         let names = self.registry.names_of(alloc, sender.id)?;
-        let letter = Letter::of(alloc, message, names, ANY)?;
+        let letter = Letter::of(alloc, parcel, names, ANY)?;
         let mut offers = Offers::new(alloc);
         'receivers: for conn in &self.conns {
             let told = self.hears(sender, &letter.names, filter, generation, conn);

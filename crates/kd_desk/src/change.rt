@@ -3,6 +3,8 @@
 use kd_commands::Conn;
 use kd_match::Condition;
 use kd_registry::Verdict;
+use kd_replies::Request;
+use kd_seal::Sealed;
 use kd_types::{ConnId, Cookie, Moment, NameFlags, Seat, Text};
 
 /// The change that a plan holds ready, with all memory that it needs.
@@ -15,6 +17,8 @@ pub(crate) enum Change {
     Leaves(ConnId),
     /// The caller of a connection that others closed knows it, and its seat is free again.
     Unblocks(Seat),
+    /// A message that expects a reply was placed.
+    Expects(Request),
     /// The reply to a request was placed.
     Answers {
         asker: ConnId,
@@ -31,6 +35,11 @@ pub(crate) enum Change {
     Releases {
         id: ConnId,
         name: Text,
+    },
+    /// The connection's bytes are sealed under its next number.
+    Seals {
+        id: ConnId,
+        sealed: Sealed,
     },
     /// The connection's seal of the number goes.
     Unseals {

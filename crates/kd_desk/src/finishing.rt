@@ -18,6 +18,8 @@ use kd_commands::Conn;
 use kd_match::Condition;
 use kd_policy::Owner;
 use kd_registry::Verdict;
+use kd_replies::Request;
+use kd_seal::Sealed;
 use kd_types::{ConnId, Cookie, Moment, NameFlags, Refusal, Seat, Text};
 use kd_wire::Reply;
 
@@ -101,6 +103,7 @@ impl Desk {
             Change::Arrives(conn) => self.arrive(conn),
             Change::Leaves(id) => self.leave(id),
             Change::Unblocks(seat) => self.unblock(seat),
+            Change::Expects(request) => self.expect(request),
             Change::Answers { asker, cookie } => self.replies.answer(asker, cookie),
             Change::Acquires {
                 id,
@@ -109,6 +112,7 @@ impl Desk {
                 verdict,
             } => self.acquire(id, flags, name, verdict),
             Change::Releases { id, name } => self.release(id, &name),
+            Change::Seals { id, sealed } => self.seal(id, sealed),
             Change::Unseals { id, number } => self.seals.unseal(id, number).unwrap(),
             Change::AddsRule {
                 id,
@@ -170,6 +174,24 @@ impl Desk {
         {
             self.replies.rename(old, id);
         }
+    }
+
+    /// A request waits for its reply.
+    #[tactic(auto, unfolding(crate::specs::Drafts::applied, crate::specs::Drafts::Fits))]
+    fn expect(&mut self, request: Request)
+        requires fits { Fits self.old (Change.Expects request) }
+        ensures { self.new ≡ applied (Change.Expects request) self.old }
+    {
+        self.replies.expect(request).unwrap();
+    }
+
+    /// A connection has a seal more.
+    #[tactic(auto, unfolding(crate::specs::Drafts::applied, crate::specs::Drafts::Fits))]
+    fn seal(&mut self, id: ConnId, sealed: Sealed)
+        requires fits { Fits self.old (Change.Seals id sealed) }
+        ensures { self.new ≡ applied (Change.Seals id sealed) self.old }
+    {
+        self.seals.seal(id, sealed).unwrap();
     }
 
     /// A connection has a rule more.

@@ -10,12 +10,12 @@
 //! ```
 //!
 //! What a plan is stands in `kd_commands`, command by command. The code plans the commands of
-//! `Runs`: HELLO of an ordinary connection on the default endpoint, SEND without sealed bytes, of
-//! which no reply is expected, BYEBYE, CLOSE, ENTER, TICK, UNSEAL, the two on rules and the three on
-//! names; every other is refused as `Unsupported`. A planner is a file of its own: `hello`,
+//! `Runs`: HELLO of an ordinary connection on the default endpoint, SEND, BYEBYE, CLOSE, ENTER, TICK,
+//! SEAL and UNSEAL, the two on rules and the three on names; every other is refused as
+//! `Unsupported`. A planner is a file of its own: `hello`,
 //! `sending`, `leaving`, `naming`, `listing`, `matching`, `sealing`, `ticking`; `finishing` makes the
-//! change of a plan. A message is judged by `sending` and `routing`, and its offers are made by
-//! `offers` and `broadcasting`.
+//! change of a plan. A message is judged by `sending`, `sharing` and `routing`, and its offers are
+//! made by `offers` and `broadcasting`.
 #![tactic(auto)]
 
 mod attaching;
@@ -38,6 +38,7 @@ mod rights;
 mod routing;
 mod sealing;
 mod sending;
+mod sharing;
 mod ticking;
 
 pub use content::Content;

@@ -5,7 +5,7 @@ ghost use Rattle.std.specs.List.{AllByRecursion};
 ghost use Rattle.kd_wire.specs.declared.reply.Reply.TheVariants as reply;
 ghost use Rattle.kd_image.specs.Images.{front, image_length, laid, padded};
 ghost use Rattle.kd_desk.specs.Drafts.{IsVisitable, StandByOffers, is_offer, parts_with, part_with};
-ghost use Rattle.kd_desk.specs.Sending.{TellsNames, plain_offer, when_told};
+ghost use Rattle.kd_desk.specs.Sending.{TellsNames, letter_offer, when_told};
 ghost use Rattle.kd_commands.specs.State.{is_monitor, monitors};
 
 use crate::change::Change;
@@ -13,10 +13,12 @@ use crate::content::Content;
 use crate::desk::Desk;
 use crate::part::Part;
 use crate::plan::Plan;
+use crate::sharing::Parcel;
 use bytes::Bytes;
 use kd_commands::{Conn, WhoKind};
 use kd_image::{Attached, Message, build, image_len, is_short};
 use kd_item::{padding, put_bytes, put_zeros};
+use kd_seal::Sealed;
 use kd_types::{Blob, Kind, Refusal, Text};
 use kd_wire::Reply;
 use std::alloc::{AllocError, Global};
@@ -82,12 +84,13 @@ impl Offers {
     }
 }
 
-/// A message on its way: with the payloads that all its receivers share, the names of its sender
-/// that may be attached, and the id that its images name as destination.
+/// A message on its way: with the payloads and the sealed bytes that all its receivers share, the
+/// names of its sender that may be attached, and the id that its images name as destination.
 #[derive(Drop)]
 pub(crate) struct Letter {
     message: Message,
     payload: Bytes<Global>,
+    share: Option<Sealed>,
     pub(crate) names: Vec<Text>,
     dst: u64,
 }
@@ -121,8 +124,18 @@ fn lay(alloc: Global, payloads: &[Blob]) -> Result<Vec<u8>, AllocError>
     Ok(out)
 }
 
-/// The content of the letter with this attached: a prefix of its own, and the payloads that are
-/// shared.
+/// One share more of the sealed bytes that a message takes along, if it takes any.
+fn share_again(share: &Option<Sealed>) -> Result<Option<Sealed>, AllocError>
+    ensures { IfOk result (λ again. again ≡ share.now) }
+{
+    match share {
+        Some(sealed) => Ok(Some(sealed.clone()?)),
+        None => Ok(None),
+    }
+}
+
+/// The content of the letter with this attached: a prefix of its own, and the payloads and the
+/// sealed bytes that are shared.
 fn content_for(
     alloc: Global,
     sender: &Conn,
@@ -136,7 +149,7 @@ fn content_for(
           image =
               front letter.now.message sender.now.id letter.now.dst attached.now
               ++ letter.now.payload;
-          shared = None;
+          shared = letter.now.share;
           priority = letter.now.message.priority;
         }) }
 {
@@ -144,7 +157,7 @@ fn content_for(
     Ok(Content {
         prefix: Blob::of(prefix),
         payload: letter.payload.clone()?,
-        shared: None,
+        shared: share_again(&letter.share)?,
         priority: letter.message.priority,
     })
 }
@@ -153,19 +166,22 @@ impl Letter {
     /// The letter of a message; its payloads are laid out once, for all its receivers.
     pub(crate) fn of(
         alloc: Global,
-        message: Message,
+        parcel: Parcel,
         names: Vec<Text>,
         dst: u64,
     ) -> Result<Letter, AllocError>
-        ensures message { IfOk result (λ l. l.message ≡ message) }
-        ensures payload { IfOk result (λ l. l.payload ≡ laid message.payloads) }
+        ensures message { IfOk result (λ l. l.message ≡ parcel.message) }
+        ensures payload { IfOk result (λ l. l.payload ≡ laid parcel.message.payloads) }
+        ensures share { IfOk result (λ l. l.share ≡ parcel.share) }
         ensures names { IfOk result (λ l. l.names.items ≡ names.items) }
         ensures dst { IfOk result (λ l. l.dst ≡ dst) }
     {
+        let Parcel { message, share } = parcel;
         let payload = Bytes::from_vec(lay(alloc, message.payloads.blobs())?)?;
         Ok(Letter {
             message,
             payload,
+            share,
             names,
             dst,
         })
@@ -174,7 +190,7 @@ impl Letter {
 
 impl Desk {
     /// One offer more, of the letter to this receiver.
-    #[tactic(auto, unfolding(crate::specs::Sending::plain_offer))]
+    #[tactic(auto, unfolding(crate::specs::Sending::letter_offer))]
     fn offer(
         &self,
         alloc: Global,
@@ -189,8 +205,8 @@ impl Desk {
         requires seat { receiver.now.seat < 64 }
         ensures ok { OnOk result (offers.new
             ≡ offers.old
-            ++ plain_offer self.now sender.now letter.now.message letter.now.dst must
-            receiver.now
+            ++ letter_offer self.now sender.now letter.now.message letter.now.share
+            letter.now.dst must receiver.now
             ∷ []) }
         ensures err { IfErr result (λ e. e ≡ Refusal.OutOfMemory) }
     {
@@ -227,7 +243,8 @@ impl Desk {
         ensures ok { OnOk result (offers.new
             ≡ offers.old
             ++ when_told told
-            (plain_offer self.now sender.now letter.now.message letter.now.dst false conn.now)) }
+            (letter_offer self.now sender.now letter.now.message letter.now.share
+            letter.now.dst false conn.now)) }
         ensures err { IfErr result (λ e. e ≡ Refusal.OutOfMemory) }
     {
         if !told {
@@ -241,19 +258,20 @@ impl Desk {
         &self,
         alloc: Global,
         sender: &Conn,
-        message: Message,
+        parcel: Parcel,
         receiver: &Conn,
     ) -> Result<Offers, Refusal>
         requires seat { receiver.now.seat < 64 }
         ensures ok { IfOk result (λ o.
             o
-            ≡ plain_offer self.now sender.now message receiver.now.id true receiver.now
-            ∷ map (plain_offer self.now sender.now message receiver.now.id false)
-            (monitors self.now)) }
+            ≡ letter_offer self.now sender.now parcel.message parcel.share receiver.now.id
+            true receiver.now
+            ∷ map (letter_offer self.now sender.now parcel.message parcel.share receiver.now.id
+            false) (monitors self.now)) }
         ensures err { IfErr result (λ e. e ≡ Refusal.OutOfMemory) }
     {
         let names = self.names_to_tell(alloc, sender)?;
-        let letter = Letter::of(alloc, message, names, receiver.id.0)?;
+        let letter = Letter::of(alloc, parcel, names, receiver.id.0)?;
         let mut offers = Offers::new(alloc);
         self.offer(alloc, &mut offers, sender, &letter, receiver, true)?;
         'monitors: for conn in &self.conns {

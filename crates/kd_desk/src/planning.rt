@@ -2,12 +2,11 @@
 
 ghost use Rattle.std.specs.Prelude.{◌≡◌, ◌<◌, ◌^◌, [], Some, false, not, IsTrue, IfSome, option_map};
 ghost use Rattle.std.specs.Borrow.{Bor};
-ghost use Rattle.kd_model.specs.Words.{all_of};
 ghost use Rattle.kd_wire.specs.Commands.{opcode_in};
 ghost use Rattle.kd_wire.specs.Opcodes.{opcode_number};
 ghost use Rattle.kd_wire.specs.WellFormed.{is_well_formed};
 ghost use Rattle.kd_desk.specs.Drafts.{PlanResult, quiet_draft};
-ghost use Rattle.kd_desk.specs.Runs.{answered, conn_answered, is_handover_by, is_not_run, is_planned, is_run_send, is_unsealed, takes_over};
+ghost use Rattle.kd_desk.specs.Runs.{answered, conn_answered, is_handover_by, is_not_run, is_planned, takes_over};
 ghost use Rattle.kd_commands.specs.Plans.{itself};
 ghost use Rattle.kd_commands.specs.State.{conn_of, is_ordinary};
 ghost use Rattle.kd_commands.specs.Step.{from_fresh, from_gone, from_old_keeper};
@@ -18,42 +17,21 @@ use crate::desk::Desk;
 use crate::hello::Wanted;
 use crate::naming::has_activator;
 use crate::plan::Plan;
-use crate::sending::ANY;
 use kd_commands::{Conn, Sent, Who, WhoKind};
-use kd_types::{ConnId, Creds, Kind, NameFlags, Refusal, Seat, SendFlags, Text};
-use kd_wire::{Command, Reply, WireItem};
+use kd_types::{ConnId, Creds, Kind, NameFlags, Refusal, Seat, Text};
+use kd_wire::{Command, Reply};
 use std::alloc::Global;
 
-/// Whether a message has no sealed bytes, and no reply is expected where it is for one receiver.
-fn is_run_send(flags: SendFlags, dst: u64, items: &[WireItem]) -> bool
-    ensures { result ≡ is_run_send flags dst items.now }
-{
-    (dst == ANY || !flags.expects_reply()) && are_unsealed(items)
-}
-
-fn are_unsealed(items: &[WireItem]) -> bool
-    ensures { result ≡ all_of is_unsealed items.now }
-{
-    items
-        .iter()
-        .all(|item| !matches!(item, WireItem::Sealed { .. }))
-}
-
-/// Whether the command is run so far: ordinary connections on the default endpoint; messages without
-/// sealed bytes, of which no reply is expected; names, rules, the moment, and what is sealed.
+/// Whether the command is run so far: ordinary connections on the default endpoint; messages, names,
+/// rules, the moment, and what is sealed.
 #[tactic(auto, unfolding(crate::specs::Runs::is_planned))]
 fn runs(cmd: &Command) -> bool
     ensures { result ≡ is_planned cmd.now }
 {
     match cmd {
         Command::Hello { flags, items, .. } => flags.word() == 0 && items.items().is_empty(),
-        Command::Send {
-            flags,
-            dst,
-            items,
-            ..
-        } => is_run_send(*flags, *dst, items.items()),
-        Command::Byebye
+        Command::Send { .. }
+        | Command::Byebye
         | Command::Close
         | Command::NameAcquire { .. }
         | Command::NameRelease { .. }
@@ -61,6 +39,7 @@ fn runs(cmd: &Command) -> bool
         | Command::MatchAdd { .. }
         | Command::MatchRemove { .. }
         | Command::Tick { .. }
+        | Command::Seal { .. }
         | Command::Unseal { .. }
         | Command::Enter { .. } => true,
         _ => false,
@@ -279,6 +258,7 @@ impl Desk {
                 items,
             } => self.plan_match_add(alloc, conn, replace, cookie, items),
             Command::MatchRemove { cookie } => self.plan_match_remove(alloc, conn, cookie),
+            Command::Seal { payload } => self.plan_seal(alloc, conn, payload),
             Command::Unseal { number } => self.plan_unseal(alloc, conn, number),
             _ => Err(Refusal::WrongState),
         }

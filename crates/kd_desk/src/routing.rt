@@ -1,17 +1,17 @@
 //! Where a message to one receiver goes.
 
-ghost use Rattle.std.specs.Prelude.{◌≡◌, ◌&&◌, ◌∷◌, [], not, ◌<◌, false, IfOk, IfSome, Some, option_map};
-ghost use Rattle.kd_commands.specs.Rights.{may_talk};
-ghost use Rattle.kd_commands.specs.Send.{asker_of, is_reply, live_ordinary, receiver, refusals_by_id, refusals_by_name, refusals_of_unicast};
-ghost use Rattle.kd_commands.specs.Messages.{expects, is_broadcast};
-ghost use Rattle.kd_desk.specs.Sending.{Judges, change_of, reaches_activator, refusals_of_target};
+ghost use Rattle.std.specs.Prelude.{◌≡◌, ◌<◌, false, IfOk, IfSome, OnOk, Some, option_map};
+ghost use Rattle.kd_commands.specs.Send.{asker_of, has_bad_cookie, is_reply, live_ordinary, receiver, refusals_by_id, refusals_by_name, refusals_of_unicast};
+ghost use Rattle.kd_commands.specs.Messages.{is_broadcast};
+ghost use Rattle.kd_desk.specs.Sending.{Judges, MayAsk, change_of, reaches_activator, refusals_of_request, refusals_of_talk, refusals_of_target, request_of};
 
 use crate::change::Change;
 use crate::desk::Desk;
 use crate::sending::destination;
 use kd_commands::{Conn, Sent};
 use kd_name::is_name;
-use kd_types::{ConnId, Cookie, Kind, Refusal, Text};
+use kd_replies::Request;
+use kd_types::{ConnId, Cookie, Kind, Moment, Refusal, Text};
 use std::alloc::Global;
 
 /// Whether it is an activator.
@@ -21,6 +21,22 @@ fn is_placeholder(found: Option<&Conn>) -> bool
     match found {
         Some(conn) => matches!(conn.kind, Kind::Activator),
         None => false,
+    }
+}
+
+/// The request that a message leaves behind for whom it reaches, if anybody.
+fn request_of(sender: &Conn, sent: &Sent, found: Option<&Conn>) -> Change
+    ensures { result
+        ≡ request_of sender.now sent.now (option_map (λ c. c.now) found.entry) }
+{
+    match found {
+        Some(receiver) => Change::Expects(Request {
+            asker: sender.id,
+            replier: receiver.id,
+            cookie: Cookie(sent.cookie),
+            deadline: Moment(sent.last),
+        }),
+        None => Change::Nothing,
     }
 }
 
@@ -59,11 +75,21 @@ impl Desk {
             .has(self.asker(sent), sender.id, Cookie(sent.last))
     }
 
-    /// The change that a message is to the desk: a reply answers its request.
-    pub(crate) fn change_of(&self, sent: &Sent, is_reply: bool) -> Change
-        ensures { result ≡ change_of self.now sent.now is_reply }
+    /// The change that a message is to the desk: it leaves a request behind for whom it reaches, or
+    /// as a reply it answers one.
+    pub(crate) fn change_of(
+        &self,
+        sender: &Conn,
+        sent: &Sent,
+        found: Option<&Conn>,
+        is_reply: bool,
+    ) -> Change
+        ensures { result
+            ≡ change_of self.now sender.now sent.now (option_map (λ c. c.now) found.entry) is_reply }
     {
-        if is_reply {
+        if sent.flags.expects_reply() {
+            request_of(sender, sent, found)
+        } else if is_reply {
             Change::Answers {
                 asker: self.asker(sent),
                 cookie: Cookie(sent.last),
@@ -74,7 +100,7 @@ impl Desk {
     }
 
     /// Whom the message reaches, if anybody.
-    fn receiver(&self, sent: &Sent) -> Option<&Conn>
+    pub(crate) fn receiver(&self, sent: &Sent) -> Option<&Conn>
         ensures conn { option_map (λ c. c.now) result ≡ receiver self.now sent.now }
         ensures seat { IfSome result (λ c. c.now.seat < 64) }
     {
@@ -149,12 +175,7 @@ impl Desk {
         receiver: &Conn,
         expected: bool,
     ) -> Result<(), Refusal>
-        ensures { Judges ((
-          not (may_talk self.now sender.now receiver.now)
-              && not expected,
-          Refusal.NotPermitted,
-        )
-            ∷ []) result }
+        ensures { Judges (refusals_of_talk self.now sender.now receiver.now expected) result }
     {
         let talks = self.may_talk(alloc, sender, receiver)?;
         if !talks && !expected {
@@ -182,27 +203,48 @@ impl Desk {
         }
     }
 
+    /// Whether one request more of the sender may wait, where the message expects a reply.
+    fn judge_request(&self, sender: &Conn, sent: &Sent) -> Result<(), Refusal>
+        requires fresh { has_bad_cookie self.now sender.now sent.now ≡ false }
+        ensures judged { Judges (refusals_of_request self.now sender.now sent.now) result }
+        ensures room { OnOk result (MayAsk self.now sender.now sent.now) }
+    {
+        if !sent.flags.expects_reply() {
+            return Ok(());
+        }
+        self.replies.may_expect(sender.id, Cookie(sent.cookie))?;
+        // There is room for what all connections may have.
+        if self.replies.is_full() {
+            return Err(Refusal::OutOfMemory);
+        }
+        Ok(())
+    }
+
     /// Whom the message reaches, or why it is refused by where it goes.
-    pub(crate) fn route(
+    pub(crate) fn route<'a>(
         &self,
         alloc: Global,
         sender: &Conn,
         sent: &Sent,
+        found: Option<&'a Conn>,
         expected: bool,
-    ) -> Result<&Conn, Refusal>
-        requires quiet { expects sent.now ≡ false }
+    ) -> Result<&'a Conn, Refusal>
+        requires fresh { has_bad_cookie self.now sender.now sent.now ≡ false }
+        requires found { option_map (λ c. c.now) found ≡ receiver self.now sent.now }
+        requires seat { IfSome found (λ r. r.now.seat < 64) }
         requires expected { expected ≡ is_reply self.now sender.now sent.now }
         ensures judged { Judges (refusals_of_unicast self.now sender.now sent.now) result }
         ensures reached { IfOk result (λ r. receiver self.now sent.now ≡ Some r.now) }
         ensures seat { IfOk result (λ r. r.now.seat < 64) }
+        ensures room { OnOk result (MayAsk self.now sender.now sent.now) }
     {
-        let found = self.receiver(sent);
         self.judge_target(alloc, sender, sent, found, expected)?;
         // Whoever owns a name is connected.
         let Some(receiver) = found else {
             return Err(Refusal::OutOfMemory);
         };
         self.judge_talk(alloc, sender, receiver, expected)?;
+        self.judge_request(sender, sent)?;
         Ok(receiver)
     }
 }

@@ -6,17 +6,18 @@ ghost use Rattle.kd_image.specs.Said.{nothing_attached};
 ghost use Rattle.kd_replies.specs.Requests.{request_waits};
 ghost use Rattle.kd_model.specs.Words.{some_of};
 ghost use Rattle.kd_desk.specs.Drafts.{PlanResult};
-ghost use Rattle.kd_commands.specs.Items.{destination_name, filter_among, payloads};
+ghost use Rattle.kd_commands.specs.Items.{destination_name, filter_among, payloads, sealed_among};
 ghost use Rattle.kd_commands.specs.Send.{fits_filters, has_bad_cookie, is_misuse, send};
-ghost use Rattle.kd_commands.specs.Messages.{expects, is_broadcast, message_of};
-ghost use Rattle.kd_desk.specs.Sending.{AreUnsealed, Judges, filter_of, refusals_of_form};
+ghost use Rattle.kd_commands.specs.Messages.{is_broadcast, message_of, share_in};
+ghost use Rattle.kd_desk.specs.Sending.{Judges, filter_of, refusals_of_bytes, refusals_of_form};
 
 use crate::change::Change;
 use crate::desk::Desk;
 use crate::plan::Plan;
+use crate::sharing::{Parcel, named_seal, range_in};
 use kd_bloom::Bits;
 use kd_commands::{Conn, Sent, WhoKind};
-use kd_image::{Attached, Message, image_len, is_short};
+use kd_image::{Attached, Message, SealedRange, image_len, is_short};
 use kd_types::{Blob, BlobList, Cookie, Refusal, Text, TextList};
 use kd_wire::WireItem;
 use std::alloc::{AllocError, Global};
@@ -73,9 +74,9 @@ fn sort(alloc: Global, items: Vec<WireItem>) -> Result<(Option<Text>, Vec<Blob>)
     Ok((destination, pieces))
 }
 
-/// The message of what was handed in.
-fn message_of(alloc: Global, sent: Sent) -> Result<Message, AllocError>
-    requires { AreUnsealed sent.items }
+/// The message of what was handed in, in which this range of a seal is named.
+fn message_of(alloc: Global, sent: Sent, sealed: Option<SealedRange>) -> Result<Message, AllocError>
+    requires { sealed ≡ option_map (λ n. n.range) (sealed_among sent.items) }
     ensures { IfOk result (λ g. g ≡ message_of sent) }
 {
     let Sent {
@@ -96,7 +97,7 @@ fn message_of(alloc: Global, sent: Sent) -> Result<Message, AllocError>
         last,
         dst_name,
         payloads: BlobList::of(payloads),
-        sealed: None,
+        sealed,
     })
 }
 
@@ -173,24 +174,41 @@ impl Desk {
         Ok(())
     }
 
-    /// What a message to one receiver comes to: an offer at the receiver, which has to take it, and
-    /// one at each monitor, which may let it go by. A reply takes the request away that it answers.
-    fn plan_unicast(&self, alloc: Global, sender: &Conn, sent: Sent) -> Result<Plan, Refusal>
-        requires unsealed { AreUnsealed sent.items }
-        requires quiet { expects sent ≡ false }
-        requires one { is_broadcast sent ≡ false }
-        ensures { PlanResult self.now (send self.now sender.now sent) result }
+    /// The message of what was handed in, with the sealed bytes that it takes along; `TooLong` or
+    /// `NoSuchSeal`.
+    fn parcel_of(&self, alloc: Global, sender: &Conn, sent: Sent) -> Result<Parcel, Refusal>
+        ensures judged { Judges (refusals_of_bytes self.now sender.now sent) result }
+        ensures message { IfOk result (λ p. p.message ≡ message_of sent) }
+        ensures share { IfOk result (λ p. p.share ≡ share_in self.now sender.now sent) }
     {
-        self.judge_form(sender, &sent)?;
-        let is_reply = self.is_reply(sender, &sent);
-        let change = self.change_of(&sent, is_reply);
-        // Judged before its items are moved, and told after its length.
-        let route = self.route(alloc, sender, &sent, is_reply);
-        let message = message_of(alloc, sent)?;
+        let named = named_seal(sent.items.items())?;
+        // Looked up before the items are moved, and told after the length.
+        let share = self.share_of(sender, named);
+        let message = message_of(alloc, sent, range_in(named))?;
         if is_too_long(alloc, &message) {
             return Err(Refusal::TooLong);
         }
-        let offers = self.unicast_offers(alloc, sender, message, route?)?;
+        Ok(Parcel {
+            message,
+            share: share?,
+        })
+    }
+
+    /// What a message to one receiver comes to: an offer at the receiver, which has to take it, and
+    /// one at each monitor, which may let it go by. It leaves a request behind where it expects a
+    /// reply, and a reply takes the request away that it answers.
+    fn plan_unicast(&self, alloc: Global, sender: &Conn, sent: Sent) -> Result<Plan, Refusal>
+        requires { is_broadcast sent ≡ false }
+        ensures { PlanResult self.now (send self.now sender.now sent) result }
+    {
+        self.judge_form(sender, &sent)?;
+        let found = self.receiver(&sent);
+        let is_reply = self.is_reply(sender, &sent);
+        let change = self.change_of(sender, &sent, found, is_reply);
+        // Judged before its items are moved, and told after its bytes.
+        let route = self.route(alloc, sender, &sent, found, is_reply);
+        let parcel = self.parcel_of(alloc, sender, sent)?;
+        let offers = self.unicast_offers(alloc, sender, parcel, route?)?;
         let after = WhoKind::Conn {
             id: sender.id,
             seat: sender.seat,
@@ -201,8 +219,7 @@ impl Desk {
     /// What a broadcast comes to: an offer at each receiver that may and wants to have it, and at
     /// each monitor. None of them has to take it.
     fn plan_broadcast(&self, alloc: Global, sender: &Conn, sent: Sent) -> Result<Plan, Refusal>
-        requires unsealed { AreUnsealed sent.items }
-        requires all { is_broadcast sent ≡ true }
+        requires { is_broadcast sent ≡ true }
         ensures { PlanResult self.now (send self.now sender.now sent) result }
     {
         self.judge_form(sender, &sent)?;
@@ -210,11 +227,8 @@ impl Desk {
             return Err(Refusal::BloomSize);
         };
         let filter = Bits::of(alloc, bits.bytes())?;
-        let message = message_of(alloc, sent)?;
-        if is_too_long(alloc, &message) {
-            return Err(Refusal::TooLong);
-        }
-        let offers = self.broadcast_offers(alloc, sender, message, &filter, generation)?;
+        let parcel = self.parcel_of(alloc, sender, sent)?;
+        let offers = self.broadcast_offers(alloc, sender, parcel, &filter, generation)?;
         let after = WhoKind::Conn {
             id: sender.id,
             seat: sender.seat,
@@ -229,8 +243,6 @@ impl Desk {
         sender: &Conn,
         sent: Sent,
     ) -> Result<Plan, Refusal>
-        requires unsealed { AreUnsealed sent.items }
-        requires quiet { is_broadcast sent ≡ false → expects sent ≡ false }
         ensures { PlanResult self.now (send self.now sender.now sent) result }
     {
         if sent.dst == ANY {

@@ -2,9 +2,9 @@ use Rattle.std.proofs.Common.{◌≡◌, map, take, false}
 use Rattle.kd_model.specs.Words.{those}
 use Rattle.kd_image.specs.Images.{any}
 use Rattle.kd_commands.specs.Audience.{broadcast, is_told}
-use Rattle.kd_desk.specs.Sending.{plain_offer}
+use Rattle.kd_desk.specs.Sending.{letter_offer}
 use Rattle.kd_desk.proofs.desk.Desk.broadcast_offers.Given as goal
 
 abbrev pub invariant-receivers : goal.invariant-receivers
 invariant-receivers l =
-    l.offers ≡ map (plain_offer l.self l.sender l.letter.message any false) (those (is_told l.self (broadcast l.sender (record { generation = l.generation; bits = l.filter }))) (take l.conn-index l.self.conns))
+    l.offers ≡ map (letter_offer l.self l.sender l.letter.message l.letter.share any false) (those (is_told l.self (broadcast l.sender (record { generation = l.generation; bits = l.filter }))) (take l.conn-index l.self.conns))

@@ -13,7 +13,7 @@ returns-clause-ok c =
     let s = c.args.sender.now in
     let g = c.args.letter.now.message in
     let dst = c.args.letter.now.dst in
-    let is = offered_is c.args.self.now s g dst c.args.must c.args.receiver.now c.in_ok-attached.attached c.image_len.result c.args.letter.now.payload c.in_ok-content.content
+    let is = offered_is c.args.self.now s g dst c.args.must c.args.receiver.now c.in_ok-attached.attached c.image_len.result c.args.letter.now.payload c.args.letter.now.share c.in_ok-content.content
     c.in_ok-attached.ensures
     (c.image_len.ensures.whole s.id dst)
     c.in_ok-content.ensures

@@ -2,10 +2,10 @@ use Rattle.std.proofs.Common.{◌≡◌, ◌∷◌, map, take, true, false}
 use Rattle.kd_model.specs.Words.{those}
 use Rattle.kd_commands.specs.declared.conn.Conn.{Conn}
 use Rattle.kd_commands.specs.State.{is_monitor}
-use Rattle.kd_desk.specs.Sending.{plain_offer}
+use Rattle.kd_desk.specs.Sending.{letter_offer}
 use Rattle.kd_desk.proofs.desk.Desk.unicast_offers.Given as goal
 
 abbrev pub invariant-monitors : goal.invariant-monitors
 invariant-monitors l =
-    l.offers ≡ plain_offer l.self l.sender l.letter.message l.receiver.id true l.receiver
-    ∷ map (plain_offer l.self l.sender l.letter.message l.receiver.id false) (those (λ (c : Conn). is_monitor c.kind) (take l.conn-index l.self.conns))
+    l.offers ≡ letter_offer l.self l.sender l.letter.message l.letter.share l.receiver.id true l.receiver
+    ∷ map (letter_offer l.self l.sender l.letter.message l.letter.share l.receiver.id false) (those (λ (c : Conn). is_monitor c.kind) (take l.conn-index l.self.conns))
