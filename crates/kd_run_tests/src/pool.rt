@@ -1,6 +1,6 @@
 //! Pools: where slices go, who is refused, and what is received.
 
-use kd_pool::{Drained, Pool, RecvMode};
+use kd_pool::{Drained, Pool, RecvMode, Sealed};
 use kd_types::{ConnId, Refusal, SliceNo};
 use std::alloc::{AllocError, Global};
 use std::str::SplitWhitespace;
@@ -24,13 +24,22 @@ fn offer(pool: &mut Pool, user: u32, len: u32) -> Result<u32, Refusal> {
     Ok(pool.offer(user, len, ConnId(1))?.0)
 }
 
-/// Publishes a message of its number over and over into a slice, if that is reserved; tells its
-/// length.
+/// A share of so many sealed bytes; None for no bytes.
+fn share(alloc: Global, len: u32) -> Result<Option<Sealed>, AllocError> {
+    if len == 0 {
+        return Ok(None);
+    }
+    Ok(Some(Sealed::of(vec![in alloc; 3u8; len as usize]?)?))
+}
+
+/// Publishes a message of its number over and over into a slice, if that is reserved, with a share
+/// of so many sealed bytes; tells its length.
 fn publish(
     alloc: Global,
     pool: &mut Pool,
     number: u32,
     priority: i64,
+    sealed: u32,
 ) -> Result<Option<u32>, AllocError> {
     let Some(len) = pool.reserved(SliceNo(number)) else {
         return Ok(None);
@@ -39,7 +48,8 @@ fn publish(
         return Ok(None);
     }
     let message = vec![in alloc; (number % 256) as u8; len as usize]?;
-    pool.publish(SliceNo(number), &[], &message, priority);
+    let share = share(alloc, sealed)?;
+    pool.publish(SliceNo(number), &[], &message, share, priority);
     Ok(Some(len))
 }
 
@@ -81,7 +91,8 @@ fn act(alloc: Global, pool: &mut Pool, line: &str) -> Result<String, Fail> {
         "publish" => {
             let number = number(words)?;
             let priority = priority(words).unwrap_or(0);
-            Ok(format!(in alloc; "{:?}", publish(alloc, pool, number, priority)?)?)
+            let published = publish(alloc, pool, number, priority, self::number(words)?)?;
+            Ok(format!(in alloc; "{published:?}")?)
         }
         "post" => Ok(format!(in alloc; "{:?}", post(alloc, pool, number(words)?))?),
         "receive" | "peek" | "drop" => {
@@ -106,7 +117,7 @@ fn act(alloc: Global, pool: &mut Pool, line: &str) -> Result<String, Fail> {
 }
 
 /// The size of a pool, and the calls with their answers.
-const SCRIPTS: [(u32, &str); 4] = [
+const SCRIPTS: [(u32, &str); 5] = [
     // A third offer waits for the first slice to be freed.
     (
         256,
@@ -185,6 +196,29 @@ post 192 -> Ok(0)
 receive -> Ok((3, 192, 64, 0))
 receive -> Ok((0, 0, 192, 0))",
     ),
+    // A share of sealed bytes is read while its slice is the receiver's, and goes with it.
+    (
+        1024,
+        "\
+offer 1 104 -> Ok(0)
+publish 0 0 16 -> Some(104)
+offer 1 104 -> Ok(1)
+publish 1 0 24 -> Some(104)
+share 0 -> Err(NoSuchSlice)
+peek -> Ok((0, 0, 104, 0))
+share 0 -> Ok((16, 3))
+receive -> Ok((0, 0, 104, 0))
+share 0 -> Ok((16, 3))
+read 0 -> Ok((104, 0))
+free 0 -> Ok(())
+share 0 -> Err(NoSuchSlice)
+drop -> Ok((1, 104, 104, 0))
+share 1 -> Err(NoSuchSlice)
+offer 1 104 -> Ok(0)
+publish 0 -> Some(104)
+receive -> Ok((0, 0, 104, 0))
+share 0 -> Err(NoSuchSeal)",
+    ),
 ];
 
 #[test]
@@ -208,7 +242,8 @@ fn drain(pool: &mut Pool, into: &mut Drained) -> Result<(), Refusal> {
     pool.drain(into)
 }
 
-fn settle(pool: &mut Pool, from: &mut Drained) -> bool {
+/// Settles what was drained, if there is room for its counts.
+fn settle(pool: &mut Pool, from: Drained) -> bool {
     if pool.published() >= 1_000_000 || pool.dropped() >= 1_000_000 {
         return false;
     }
@@ -217,7 +252,7 @@ fn settle(pool: &mut Pool, from: &mut Drained) -> bool {
 }
 
 #[test]
-fn a_drain_waits_for_the_senders(rt: HostRuntime) -> Result<(), Fail> {
+fn a_drain_waits_for_the_senders_and_takes_shares_along(rt: HostRuntime) -> Result<(), Fail> {
     let alloc = rt.alloc();
     let mut pool = Pool::make(alloc, 256)?;
     let mut buffer = Drained::make(alloc, 256)?;
@@ -226,14 +261,15 @@ fn a_drain_waits_for_the_senders(rt: HostRuntime) -> Result<(), Fail> {
         drain(&mut pool, &mut buffer),
         Err(Refusal::Busy { slice: 0 })
     );
-    assert_eq!(rt; publish(alloc, &mut pool, 0, 0)?, Some(8));
+    assert_eq!(rt; publish(alloc, &mut pool, 0, 0, 40)?, Some(8));
     assert_eq!(rt; drain(&mut pool, &mut buffer), Ok(()));
     assert!(rt; !pool.waiting());
     let mut next = Pool::make(alloc, 256)?;
-    assert!(rt; settle(&mut next, &mut buffer));
+    assert!(rt; settle(&mut next, buffer));
     assert_eq!(rt;
         act(alloc, &mut next, "receive")?.as_str(),
         "Ok((0, 0, 8, 0))"
     );
+    assert_eq!(rt; act(alloc, &mut next, "share 0")?.as_str(), "Ok((40, 3))");
     Ok(())
 }
