@@ -35,6 +35,10 @@ length_put below s (t ∷ ts) = go (below s t) (length_put below s ts)
     go true e = omega arith
     go false e = omega (arith, e)
 
+-- as many messages as slots
+pub few_carried : (memory : List ℕ) (shares : Shares) (ss : List Slot) (n : ℕ) → length ss ≤ n → length (map (carried memory shares) ss) ≤ n
+few_carried memory shares ss n le = omega (arith, length-map ss (carried memory shares), le)
+
 -- at most as many wait as there are
 pub few_arrive : (ss : List Slot) → length (waiting_slots ss) ≤ length ss
 few_arrive [] = omega arith

@@ -83,6 +83,7 @@ impl Drained {
         requires queued { entries.now ≡ queue_of slots.now }
         ensures images { self.new
             ≡ record self.old { images = images_waiting memory.now shares.old.items slots.now } }
+        ensures few { length self.new.images ≤ SLICES }
         ensures shares { shares.new.items ≡ without_shares is_waiting slots.now shares.old.items }
     {
         self.memory.copy_from_slice(memory);

@@ -16,13 +16,14 @@ use kd_types::Refusal;
 
 impl Pool {
     /// Takes all messages that wait out, queued or peeked at, by rising arrival, into an empty
-    /// buffer that was made for this pool's size. `Busy` of the lowest number that is reserved, if
-    /// any; then nothing changes.
+    /// buffer that was made for this pool's size: at most 256, as there are numbers. `Busy` of the
+    /// lowest number that is reserved, if any; then nothing changes.
     pub fn drain(&mut self, into: &mut Drained) -> Result<(), Refusal>
         requires size { into.old.size ≡ self.old.size }
         requires empty { into.old.images ≡ [] }
         ensures state { self.new ≡ (drain_step self.old).0 }
         ensures answer { drained_into result into.new.images ≡ (drain_step self.old).1 }
+        ensures few { length into.new.images ≤ SLICES }
         ensures size { into.new.size ≡ into.old.size }
         ensures err { OnErr result (into.new ≡ into.old) }
     {

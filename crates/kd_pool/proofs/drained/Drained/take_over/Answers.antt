@@ -1,7 +1,7 @@
 -- The slots that wait lie in the memory that was copied.
-use Rattle.std.specs.Prelude.{ℕ, List, map, length, vec_capacity}
+use Rattle.std.specs.Prelude.{◌≡◌, ℕ, List, map, length, vec_capacity}
 use Rattle.std.proofs.Common.{ap, arith, ◌∙◌}
-use Rattle.kd_pool.proofs.Drains.{few_arrive, none_seen}
+use Rattle.kd_pool.proofs.Drains.{few_arrive, few_carried, none_seen}
 use Rattle.kd_acts.proofs.Arrivals.{all_of_waiting}
 use Rattle.kd_model.proofs.Lists.{all_follow}
 use Rattle.kd_acts.specs.State.{Batch, is_waiting, waiting_slots}
@@ -41,3 +41,8 @@ returns-clause-images c =
     let moved = ap (λ k. map (carried c.args.memory.now k) (waiting_slots ss)) c.move_waiting.ensures.to ∙ moved_waiting c.args.memory.now ss h c.self.inside.shares.items c.requires.apart low in
     ap (λ m. P m c.put_queued.new.rows.items) c.copy_from_slice.ensures.items ∙ ap (P c.args.memory.now) c.put_queued.ensures.items ∙ ap (λ is. record { size = length c.args.memory.now; images = is }) moved
     ∙ ap (λ n. record { size = n; images = map (carried c.args.memory.now h) (waiting_slots ss) }) c.requires.size
+
+pub returns-clause-few : goal.returns-clause-few
+returns-clause-few c =
+    let rows : length c.put_queued.new.rows.items ≡ length (waiting_slots c.args.slots.now) = ap length c.put_queued.ensures.items in
+    few_carried _ _ c.put_queued.new.rows.items _ (omega (arith, rows, few_arrive c.args.slots.now, c.requires.few))
