@@ -1,7 +1,6 @@
 -- Only an acquire over an activator hands messages over, and that comes first.
 use Rattle.std.proofs.Common.{◌≡◌, ℕ, Bool, true, false, List, [], ◌∷◌, ◌++◌, map, Option, Some, None, refl, inl, inr}
 use Rattle.std.specs.Prelude.{max}
-use Rattle.std.specs.List.{AllByRecursion}
 use Rattle.kd_model.proofs.Lists.{all_of_append}
 use Rattle.kd_model.specs.Words.{but_those}
 use Rattle.kd_replies.specs.declared.request.Request.{Request}

@@ -1,9 +1,8 @@
 -- So it goes along every list of legal events.
 use Rattle.std.specs.Prelude.{◌≡◌, ℕ, true, List, [], ◌∷◌, ◌++◌, replicate, Option, None}
-use Rattle.std.specs.List.{AllByRecursion}
-use Rattle.std.proofs.Common.{ap, sym, subst, ◌∙◌}
+use Rattle.std.proofs.Common.{ap, sym}
 use Rattle.kd_model.proofs.Truth.{left_true, right_true}
-use Rattle.kd_world.specs.State.{Caller, Pending, World, closed_pool, new_world, stranger}
+use Rattle.kd_world.specs.State.{Caller, World, closed_pool, new_world, stranger}
 use Rattle.kd_world.specs.Legal.{Event, legal}
 use Rattle.kd_world.specs.Step.{step}
 use Rattle.kd_world.specs.Runs.{IsReached, all_legal}

@@ -1,6 +1,6 @@
 -- Each event adds to the list of a pool what pairs with what is due there, and leaves due what
 -- callers owe.
-use Rattle.std.specs.Prelude.{◌≡◌, ◌≢◌, ◌⊎◌, ◌<◌, ◌≤◌, ◌+◌, ◌-◌, ◌==◌, ◌&&◌, ℕ, Bool, true, false, not, List, [], ◌∷◌, ◌++◌, length, get_or, set, refl, Option, Some, None, Result, Ok, Err, is_none, is_some}
+use Rattle.std.specs.Prelude.{◌≡◌, ◌≢◌, ◌⊎◌, ◌<◌, ◌+◌, ◌-◌, ◌==◌, ◌&&◌, ℕ, Bool, true, false, not, List, [], ◌∷◌, ◌++◌, length, get_or, set, refl, Option, Some, None, Result, Ok, Err, is_none, is_some}
 use Rattle.std.specs.List.{AllByRecursion}
 use Rattle.std.proofs.Common.{ap, sym, subst, ◌∙◌, arith, inl, inr, ⊎_elim, eq-eqb, eqb-true, ne_eqb, append-nil, append_assoc}
 use Rattle.std.proofs.lemmas.Bool.{true≢false}
@@ -19,7 +19,6 @@ use Rattle.kd_acts.proofs.Reserved.{turns}
 use Rattle.kd_commands.specs.declared.who.Who.{Who}
 use Rattle.kd_commands.specs.State.{Desk}
 use Rattle.kd_commands.specs.Plans.{Part, Plan}
-use Rattle.kd_commands.proofs.Asides.{IsAside}
 use Rattle.kd_commands.proofs.Laid.{AreLaidOut, plan_laid}
 use Rattle.kd_world.specs.declared.told.Told.{Told}
 use Rattle.kd_world.specs.declared.told.Told.TheVariants.{Peeked, Handed}
@@ -39,10 +38,9 @@ use Rattle.kd_world.proofs.Own.{free_act, free_is, publish_act, publish_is, read
 use Rattle.kd_world.proofs.Made.{made_alike, made_more, made_of_none, none_made, turn_makes}
 use Rattle.kd_world.proofs.Placing.{OwesWell, Places, made_by, owing_of, set_pendings}
 use Rattle.kd_world.proofs.Owing.{IsDue, first_less, same_generations}
-use Rattle.kd_histories.specs.Turns.{Turn, did}
 use Rattle.kd_histories.specs.Pairs.{ArePaired, Due, IsPaired, IsPairedAct, due_by, due_by_act, due_from}
 use Rattle.kd_pairs.specs.Paired.{caller_of, turn_of, turns_added, turns_at}
-use Rattle.kd_pairs.proofs.Dues.{AreDueOf, Dues, IsDueOf, due_more, due_still, dues_after, dues_same, published, with_dues, with_owed}
+use Rattle.kd_pairs.proofs.Dues.{AreDueOf, Dues, IsDueOf, due_more, due_still, dues_after, published, with_dues, with_owed}
 
 -- ---- what an event adds
 
