@@ -1,6 +1,6 @@
 //! The policy of a bus: the lists of all owners.
 
-ghost use Rattle.std.specs.Prelude.{◌≡◌, ◌+◌, ◌<◌, ◌≤◌, ◌++◌, None, Some, [], length, vec_len, IfOk, IfSome, OnOk, OnErr, MatchResult};
+ghost use Rattle.std.specs.Prelude.{◌≡◌, ◌+◌, ◌<◌, ◌≤◌, ◌++◌, ◌||◌, nat_lt, is_some, None, Some, [], length, vec_len, IfOk, IfSome, OnOk, OnErr, MatchResult};
 ghost use Rattle.std.specs.Vec.{vec_capacity};
 ghost use Rattle.kd_policy.specs.Granted.{found_in};
 ghost use Rattle.kd_types.specs.Words.{but_those, some_of};
@@ -88,6 +88,14 @@ impl PolicyDb {
             (λ refusal. put_refusal owner entries.now ≡ Some refusal) }
     {
         judge(&owner, entries)
+    }
+
+    /// Whether `put` finds room for the entries of this owner: it has some already, or there is room
+    /// for one owner more.
+    pub fn has_room(&self, owner: Owner) -> bool
+        ensures { result ≡ (is_some (place_of self.now owner) || nat_lt (length self.now) 72) }
+    {
+        place_of(&self.holdings, &owner).is_some() || self.holdings.len() < OWNERS
     }
 
     /// Takes the owner and its entries out.
