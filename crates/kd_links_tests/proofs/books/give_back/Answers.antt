@@ -2,7 +2,6 @@
 use Rattle.std.specs.Prelude.{is_some}
 use Rattle.std.proofs.Common.{ap, sym, ◌∙◌}
 use Rattle.kd_model.specs.declared.placed.Placed.{Placed}
-use Rattle.kd_model.specs.Slices.{Book}
 use Rattle.kd_links.proofs.Books.{found_is_placed}
 use Rattle.kd_links_tests.proofs.books.give_back.Goals as goal
 
