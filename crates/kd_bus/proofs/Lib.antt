@@ -6,3 +6,4 @@ pub mod Going
 pub mod Placing
 pub mod Planned
 pub mod Left
+pub mod Closings

@@ -16,3 +16,5 @@ pub mod Visited
 pub mod Ready
 -- what a command tells
 pub mod Leaving
+-- what a slot has come to when all its passes came back
+pub mod Closing

@@ -16,11 +16,13 @@
 //! - `bus`: the bus and its passes; `locked`: what lies behind the locks; `slip`: what an entry says
 //! - `conn`, `member`: what a caller is, with its hand
 //! - `publishing`, `receiving`, `releasing`: the calls on one pool
+//! - `closing`: all passes come back, and the desk and the pools come out
 //! - `preparing`, `visiting`, `pendings`: what a command needs, the visits of its plan, and what
 //!   they leave to be published
 #![tactic(auto)]
 
 mod bus;
+mod closing;
 mod conn;
 mod locked;
 mod member;
@@ -33,6 +35,7 @@ mod slip;
 mod visiting;
 
 pub use bus::{Bus, BusPass};
+pub use closing::Closed;
 pub use conn::Conn;
 pub use kd_holds::{Pending, Published};
 pub use member::{Keeper, Maker, Member};
