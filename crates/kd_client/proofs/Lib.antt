@@ -1,0 +1,4 @@
+pub mod Coming
+pub mod Heads
+pub mod NoReply
+pub mod Spoken
