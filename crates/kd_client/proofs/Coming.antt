@@ -1,7 +1,7 @@
 -- Bytes that come in several pieces.
-use Rattle.std.proofs.Common.{◌≡◌, ℕ, ◌≤◌, List, [], ◌++◌, length, take, Option, refl, sym, ap, ◌∙◌, append_assoc, arith}
+use Rattle.std.proofs.Common.{◌≡◌, ℕ, ◌≤◌, List, [], ◌++◌, length, Option, sym, ap, ◌∙◌, append_assoc, arith}
 use Rattle.std.proofs.lemmas.List.{append-nil, take-append-le}
-use Rattle.std.specs.Io.KnownBytes.{Consumes, Keeps}
+use Rattle.std.specs.Io.KnownBytes.{Consumes}
 use Rattle.byteorder.specs.Numbers.{little_from-take}
 use Rattle.kd_item.specs.Spelling.{number}
 use Rattle.kd_outside.proofs.Known.{consumes_nothing, consumes_more}

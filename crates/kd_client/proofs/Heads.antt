@@ -1,6 +1,6 @@
 -- The first words of a reply's frame, whatever follows it.
-use Rattle.std.proofs.Common.{◌≡◌, ℕ, ◌+◌, ◌*◌, ◌^◌, ◌<◌, List, [], ◌∷◌, ◌++◌, length, drop, refl, sym, ap, ◌∙◌, append_assoc, length-append, arith}
-use Rattle.std.proofs.lemmas.List.{append-nil, drop_at}
+use Rattle.std.proofs.Common.{◌≡◌, ℕ, ◌^◌, ◌<◌, List, [], ◌∷◌, ◌++◌, length, drop, sym, ap, ◌∙◌, append_assoc, length-append, arith}
+use Rattle.std.proofs.lemmas.List.{drop_at}
 use Rattle.kd_item.specs.Spelling.{word, words, number}
 use Rattle.kd_item.proofs.Words.{length-word, length-words, word_again}
 use Rattle.kd_wire.specs.declared.reply.Reply.{Reply}

@@ -18,7 +18,7 @@ pub enum ClientError {
         /// How many bytes were read in all.
         at: u64,
     },
-    /// What was read is no reply to the command, or no image where one was asked for.
+    /// What was read is no reply to the command.
     BadReply {
         /// Where it begins, which is where the replies before it end.
         at: u64,

@@ -1,5 +1,4 @@
-use Rattle.std.proofs.Common.{◌≡◌, refl, sym, ◌∙◌, inr, rules}
-use Rattle.kd_types.specs.declared.reply_error.ReplyError.TheVariants.{Bad}
+use Rattle.std.proofs.Common.{refl, sym, ◌∙◌, inr}
 use Rattle.kd_wire.specs.Opcodes.{opcode_number}
 use Rattle.kd_client.proofs.NoReply.{opcode_small, none_other, none_broken, none_for, not_both}
 use Rattle.kd_client.proofs.reading.reply_of.Goals as goal
