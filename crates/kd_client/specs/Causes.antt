@@ -20,8 +20,12 @@ pub record IsReply (command : ℕ) (reply : Reply) : Type 0 where
 
 -- bytes that neither begin with a reply to the command, nor are the beginning of one
 pub record IsNoReply (command : ℕ) (bytes : List ℕ) : Type 0 where
-  pub begins : (reply : Reply) (rest : List ℕ) → IsReply command reply → bytes ≡ reply_frame command 0 reply ++ rest → ⊥
-  pub begun : (reply : Reply) (rest : List ℕ) → IsReply command reply → bytes ++ rest ≡ reply_frame command 0 reply → ⊥
+  pub begins :
+      (reply : Reply) (rest : List ℕ) → IsReply command reply
+      → bytes ≡ reply_frame command 0 reply ++ rest → ⊥
+  pub begun :
+      (reply : Reply) (rest : List ℕ) → IsReply command reply
+      → bytes ++ rest ≡ reply_frame command 0 reply → ⊥
 
 -- bytes that begin with the size word of a reply that is longer than any
 pub record IsTooLong (bytes : List ℕ) : Type 0 where
@@ -66,13 +70,18 @@ IsCause at before after left bytes count total OutOfMemory = ⊤
 -- a call that ended its client, of which so many bytes had been read: the commands that were asked
 -- and answered, those that were still to be answered, and why they weren't. What was written is a
 -- front of the frames of all of them; what was read is the replies and some bytes behind them.
-pub record Broke (from : ℕ) (before after : LinkState) (done : List Exchange) (left : List Command) (error : ClientError) : Type 0 where
+pub record Broke (from : ℕ) (before after : LinkState) (done : List Exchange) (left : List Command)
+    (error : ClientError) : Type 0 where
   pub count : ℕ
   pub bytes : List ℕ
-  pub written : Appends before.writing.bytes after.writing.bytes (take count (frames (commands_of done ++ left)))
+  pub written :
+      Appends before.writing.bytes after.writing.bytes
+      (take count (frames (commands_of done ++ left)))
   pub read : Consumes before.reading.bytes after.reading.bytes (replies done ++ bytes)
   pub answered : AreAnswered done
-  pub cause : IsCause (from + length (replies done)) before after left bytes count (length (frames (commands_of done ++ left))) error
+  pub cause :
+      IsCause (from + length (replies done)) before after left bytes count
+      (length (frames (commands_of done ++ left))) error
 
 -- bytes that were held grew by what was read
 pub record Came (before after : Option (List ℕ)) (held now : List ℕ) : Type 0 where
