@@ -96,7 +96,7 @@ ends_as d h k held has =
 counts_one : (c : Change) (d : Desk) → (applied c d).next_id ≤ d.next_id + 1
 unfolding applied without_conns with_claim without_claim
 counts_one change.Nothing d = omega arith
-counts_one (change.Arrives c) d = omega arith
+counts_one (change.Arrives c b) d = omega arith
 counts_one (change.Leaves id) d = omega arith
 counts_one (change.Unblocks seat) d = omega arith
 counts_one (change.Expects q) d = omega arith
@@ -107,6 +107,8 @@ counts_one (change.Seals id bytes) d = omega arith
 counts_one (change.Unseals id number) d = omega arith
 counts_one (change.AddsRule id cookie conditions replace) d = omega arith
 counts_one (change.RemovesRules id cookie) d = omega arith
+counts_one (change.SetsPolicy o entries) d = omega arith
+counts_one (change.AddsEndpoint label number entries) d = omega arith
 counts_one (change.Passes now) d = omega arith
 
 pub ids_by_one : (d : Desk) (p : Draft) (outs : List Out) → (ended_on d p outs).next.next_id ≤ d.next_id + 1

@@ -5,8 +5,9 @@ use Rattle.std.proofs.lemmas.Bool.{true≢false}
 use Rattle.kd_model.proofs.Truth.{left_false, left_true, none_is, not_false, right_true}
 use Rattle.kd_types.specs.declared.refusal.Refusal.{Refusal}
 use Rattle.kd_types.specs.declared.refusal.Refusal.TheVariants.{NoSuchBus}
-use Rattle.kd_model.specs.Words.{is_empty}
+use Rattle.kd_model.specs.Words.{all_of}
 use Rattle.kd_wire.specs.declared.item.WireItem.{WireItem}
+use Rattle.kd_wire.specs.declared.item.WireItem.TheVariants as item
 use Rattle.kd_wire.specs.declared.command.Command.{Command}
 use Rattle.kd_wire.specs.declared.command.Command.TheVariants as cmd
 use Rattle.kd_wire.specs.WellFormed.{is_well_formed}
@@ -14,7 +15,7 @@ use Rattle.kd_commands.specs.declared.who.Who.{Who}
 use Rattle.kd_commands.specs.State.{Desk}
 use Rattle.kd_commands.specs.Plans.{Plan}
 use Rattle.kd_commands.specs.Step.{plan}
-use Rattle.kd_desk.specs.Runs.{answered, is_handover_by, is_keeper, is_not_run, is_planned, unsupported}
+use Rattle.kd_desk.specs.Runs.{answered, is_no_bus, is_not_run, is_not_run_by, is_planned, unsupported}
 use Rattle.kd_world.specs.State.{World, caller_at}
 use Rattle.kd_world.specs.Planner.{names_other_bus, is_elsewhere, is_fresh, planned}
 use Rattle.kd_world.specs.Legal.{take, is_caller, is_for_desk, legal}
@@ -29,21 +30,22 @@ not_so true h = absurd (true≢false (sym h))
 not_so false h = refl
 
 -- a command that is run names no bus
-of_this_bus : (is : List WireItem) → IsTrue (is_empty is) → is_elsewhere is ≡ false
+of_this_bus : (is : List WireItem) → IsTrue (all_of is_no_bus is) → is_elsewhere is ≡ false
 of_this_bus [] h = refl
-of_this_bus (i ∷ is) h = absurd (true≢false (sym h))
+of_this_bus (item.Bus n ∷ is) h = absurd (true≢false (sym h))
+of_this_bus (i ∷ is) h = of_this_bus is h
 
 names_this_bus : (x : Command) → IsTrue (is_planned x) → names_other_bus x ≡ false
 unfolding is_planned
-names_this_bus (cmd.Hello flags size send_mask receive_mask is) h = of_this_bus is (right_true (flags.0 == 0) (is_empty is) h)
-names_this_bus (cmd.EndpointMake is) h = absurd (true≢false (sym h))
+names_this_bus (cmd.Hello flags size send_mask receive_mask is) h = of_this_bus is h
+names_this_bus (cmd.EndpointMake is) h = of_this_bus is h
 names_this_bus _ h = refl
 
 -- its plan is the desk's
 pub run_as_planned : (d : Desk) (w : Who) (x : Command) → is_not_run d w.member x ≡ false → answered d w x ≡ planned d w x
 unfolding answered planned
 run_as_planned d w x h =
-    let run : IsTrue (is_planned x) = not_false (is_planned x) (left_false (not (is_planned x)) (is_keeper w.member) (left_false (not (is_planned x) || is_keeper w.member) (is_handover_by d w.member x) h)) in
+    let run : IsTrue (is_planned x) = not_false (is_planned x) (left_false (not (is_planned x)) (is_not_run_by d w.member x) h) in
     ap (λ b. elim b [ true ↦ unsupported x | false ↦ plan d w x ]) h ∙ sym (no_other (is_fresh w.member) (names_other_bus x) (names_this_bus x run) (Err (NoSuchBus 0)) (plan d w x))
   where
     no_other : {X : Type 0} (a b : Bool) → b ≡ false → (there here : X) → elim (a && b) [ true ↦ there | false ↦ here ] ≡ here

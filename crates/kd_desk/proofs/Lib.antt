@@ -19,3 +19,6 @@ pub mod Dues
 pub mod Routed
 pub mod Shares
 pub mod Seals
+pub mod Entries
+pub mod Keeping
+pub mod Standing

@@ -61,12 +61,15 @@ owner_behind (x ∷ xs) ys n h =
     let h' = and_parts (not (is_on n x)) (list_all (λ c. not (is_on n c)) xs) h in
     owner_skip x (xs ++ ys) n (not-true (is_on n x) h'.0) ∙ owner_behind xs ys n h'.1
 
+-- claims on lower names change no owner
+pub owner_behind_lower : (r : List Claim) (n : List ℕ) (cs : List Claim) → owner (lower r n ++ cs) n ≡ owner cs n
+owner_behind_lower r n cs =
+    let is_low : Claim → Bool = λ (x : Claim). text_below x.name n in
+    owner_behind (lower r n) cs n (all_weaker is_low (λ x. not (is_on n x)) (λ x t. not_from_false (is_on n x) (not_same x.name n t)) (lower r n) (all_kept is_low r))
+
 -- so it is among claims that were replaced on the name
 owner_of_ranks : (r : List Claim) (n : List ℕ) (c : Claim) (cs : List Claim) → is_on n c ≡ true → is_ordinary_claim c ≡ true → owner (with_ranks r n (c ∷ cs)) n ≡ Some c
-owner_of_ranks r n c cs e k =
-    let is_low : Claim → Bool = λ (x : Claim). text_below x.name n in
-    owner_behind (lower r n) ((c ∷ cs) ++ higher r n) n (all_weaker is_low (λ x. not (is_on n x)) (λ x t. not_from_false (is_on n x) (not_same x.name n t)) (lower r n) (all_kept is_low r))
-    ∙ owner_front c (cs ++ higher r n) n e k
+owner_of_ranks r n c cs e k = owner_behind_lower r n ((c ∷ cs) ++ higher r n) ∙ owner_front c (cs ++ higher r n) n e k
 
 -- and the first of the claims on the name, where it is ordinary
 owner_of_head : (r : List Claim) (n : List ℕ) (o : Claim) (os : List Claim) → ranks r n ≡ o ∷ os → is_ordinary_claim o ≡ true → owner r n ≡ Some o

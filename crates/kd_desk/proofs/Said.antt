@@ -1,10 +1,12 @@
 -- What the first item says that says it, as the items are gone through.
 use Rattle.std.proofs.Common.{◌≡◌, ℕ, ◌+◌, ◌<◌, true, false, List, [], ◌∷◌, ◌++◌, length, get_or, take, drop, Option, Some, None, is_some, refl, ap, sym, ◌∙◌}
+use Rattle.std.specs.Prelude.{unwrap_or}
 use Rattle.std.proofs.lemmas.List.{take_more, take-append-drop}
 use Rattle.kd_model.proofs.Truth.{no_some}
 use Rattle.kd_wire.specs.declared.item.WireItem.{WireItem}
 use Rattle.kd_wire.specs.declared.item.WireItem.TheVariants as item
-use Rattle.kd_commands.specs.Items.{destination_name, filter_among}
+use Rattle.kd_desk.specs.Arriving.{name_among}
+use Rattle.kd_commands.specs.Items.{activator_name, description_in, destination_name, endpoint_in, filter_among}
 
 -- the first of two that there is
 abbrev pub first_of : {X : Type 0} → Option X → Option X → Option X
@@ -89,3 +91,43 @@ no_name x never = refl
 pub no_filter : (x : WireItem) → ((generation : ℕ) (bits : List ℕ) → x ≡ item.Filter generation bits → ⊥) → filter_among (x ∷ []) ≡ None
 no_filter (item.Filter generation bits) never = absurd (never generation bits refl)
 no_filter x never = refl
+
+-- ---- the endpoint that a connection comes by, what it calls itself, and the name of an activator
+
+endpoint_step : (x : WireItem) (xs : List WireItem) → endpoint_in (x ∷ xs) ≡ first_of (endpoint_in (x ∷ [])) (endpoint_in xs)
+endpoint_step (item.Endpoint n) xs = refl
+endpoint_step x xs = refl
+
+pub said_endpoint : IsFirstSaid endpoint_in
+said_endpoint = record { nothing = refl; step = endpoint_step }
+
+description_step : (x : WireItem) (xs : List WireItem) → description_in (x ∷ xs) ≡ first_of (description_in (x ∷ [])) (description_in xs)
+description_step (item.Description n) xs = refl
+description_step x xs = refl
+
+pub said_description : IsFirstSaid description_in
+said_description = record { nothing = refl; step = description_step }
+
+pub no_label : (x : WireItem) → ((n : List ℕ) → x ≡ item.Endpoint n → ⊥) → endpoint_in (x ∷ []) ≡ None
+no_label (item.Endpoint n) never = absurd (never n refl)
+no_label x never = refl
+
+pub no_description : (x : WireItem) → ((n : List ℕ) → x ≡ item.Description n → ⊥) → description_in (x ∷ []) ≡ None
+no_description (item.Description n) never = absurd (never n refl)
+no_description x never = refl
+
+name_among_step : (x : WireItem) (xs : List WireItem) → name_among (x ∷ xs) ≡ first_of (name_among (x ∷ [])) (name_among xs)
+name_among_step (item.Name n) xs = refl
+name_among_step x xs = refl
+
+pub said_name_among : IsFirstSaid name_among
+said_name_among = record { nothing = refl; step = name_among_step }
+
+pub no_name_among : (x : WireItem) → ((n : List ℕ) → x ≡ item.Name n → ⊥) → name_among (x ∷ []) ≡ None
+no_name_among (item.Name n) never = absurd (never n refl)
+no_name_among x never = refl
+
+pub name_of_activator : (is : List WireItem) → activator_name is ≡ unwrap_or (name_among is) []
+name_of_activator [] = refl
+name_of_activator (item.Name n ∷ is) = refl
+name_of_activator (x ∷ is) = name_of_activator is

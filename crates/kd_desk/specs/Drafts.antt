@@ -4,7 +4,13 @@ use Rattle.std.specs.List.{AllByRecursion}
 use Rattle.kd_types.specs.declared.refusal.Refusal.{Refusal}
 use Rattle.kd_model.specs.Words.{but_those, put_in_order}
 use Rattle.kd_wire.specs.declared.reply.Reply.{Reply}
-use Rattle.kd_registry.specs.Claims.{asked, release_answer}
+use Rattle.kd_registry.specs.declared.claim.Claim.{Claim}
+use Rattle.kd_registry.specs.Claims.{activator_answer, after_activator, asked, release_answer}
+use Rattle.kd_policy.specs.declared.entry.Entry.{Entry}
+use Rattle.kd_policy.specs.declared.owner.Owner.{Owner}
+use Rattle.kd_policy.specs.declared.owner.Owner.TheVariants as owner
+use Rattle.kd_policy.specs.Policy.{Policy, after_put, place_of, put_refusal}
+use Rattle.kd_endpoint.specs.Labels.{add_answer, after_add}
 use Rattle.kd_match.specs.Rules.{rule_refusal, remove_refusal, rules_left, with_rule, without_rules}
 use Rattle.kd_seal.specs.Book.{has_counted, next_number, seal_answer, unseal_answer, unsealed, with_seal}
 use Rattle.kd_replies.specs.Requests.{expect_answer, expecting, is_due, request_waits}
@@ -12,6 +18,8 @@ use Rattle.kd_acts.specs.State.{Content, raise, close, offer, post, drain, settl
 use Rattle.kd_commands.specs.declared.who.WhoKind.{WhoKind}
 use Rattle.kd_desk.specs.declared.part.Part as code
 use Rattle.kd_desk.specs.declared.part.Part.TheVariants as part
+use Rattle.kd_desk.specs.declared.change.Brought.{Brought}
+use Rattle.kd_desk.specs.declared.change.Brought.TheVariants as brought
 use Rattle.kd_desk.specs.declared.change.Change.{Change}
 use Rattle.kd_desk.specs.declared.change.Change.TheVariants as change
 use Rattle.kd_commands.specs.State.{Desk, sits_before, unblocked}
@@ -80,11 +88,23 @@ abbrev pub quiet_draft : Reply → Change → WhoKind → Draft
 quiet_draft reply change after =
     record { parts = []; contents = []; reply = reply; change = change; after = after }
 
+-- an activator has its name, the last of all that claim it
+abbrev pub registry_brought : List Claim → ℕ → Brought → List Claim
+registry_brought r id (brought.Name n) = after_activator r id n (Ok tt)
+registry_brought r id _ = r
+
+-- and a holder its entries
+abbrev pub policy_brought : Policy → ℕ → Brought → Policy
+policy_brought p id (brought.Entries es) = after_put p (owner.Conn id) es.items
+policy_brought p id _ = p
+
 -- the desk after a change
 unfoldable pub applied : Change → Desk → Desk
 applied change.Nothing d = d
-applied (change.Arrives c) d = record d {
+applied (change.Arrives c b) d = record d {
   conns = put_in_order sits_before c d.conns;
+  registry = registry_brought d.registry c.id b;
+  policy = policy_brought d.policy c.id b;
   next_id = d.next_id + 1;
 }
 applied (change.Leaves id) d = without_conns d (id ∷ [])
@@ -106,6 +126,11 @@ applied (change.AddsRule id cookie conditions replace) d = record d {
       }) replace;
 }
 applied (change.RemovesRules id cookie) d = record d { rules = without_rules d.rules id cookie }
+applied (change.SetsPolicy o entries) d = record d { policy = after_put d.policy o entries.items }
+applied (change.AddsEndpoint label number entries) d = record d {
+  endpoints = after_add d.endpoints label;
+  policy = after_put d.policy (owner.Endpoint number) entries.items;
+}
 applied (change.Passes now) d = record d {
   moment = now;
   requests = but_those (is_due now) d.requests;
@@ -127,9 +152,27 @@ pub record MaySeal (d : Desk) (id len : ℕ) : Type 0 where
   pub counters : IsTrue (has_counted d.seals id) ⊎ (length d.seals.counters < 64)
   pub numbers : next_number d.seals id ≤ 2 ^ 63 - 1
 
+-- the policy takes these entries of an owner, and has room for them
+abbrev pub TakesEntries : Policy → Owner → List Entry → Type 0
+TakesEntries p o es = (put_refusal o es ≡ None) × (place_of p o ≡ None → length p < 72)
+
+-- the registry and the policy take what a newcomer of this id brings
+abbrev pub TakesBrought : List Claim → ℕ → Brought → Type 0
+TakesBrought r id brought.Nothing = Unit {0}
+TakesBrought r id (brought.Name n) = activator_answer r n ≡ Ok tt
+TakesBrought r id (brought.Entries es) = put_refusal (owner.Conn id) es.items ≡ None
+
+-- and have room for it
+abbrev pub HasRoomFor : List Claim → Policy → ℕ → Brought → Type 0
+HasRoomFor r p id brought.Nothing = Unit {0}
+HasRoomFor r p id (brought.Name n) = length r < 4160
+HasRoomFor r p id (brought.Entries es) = place_of p (owner.Conn id) ≡ None → length p < 72
+
 -- the desk can make the change without memory
 unfoldable pub Fits : Desk → Change → Type 0
-Fits d (change.Arrives c) = (length d.conns < 64) × (c.seat < 64) × (d.next_id < 2 ^ 64 - 1)
+Fits d (change.Arrives c b) =
+    (length d.conns < 64) × (c.seat < 64) × (d.next_id < 2 ^ 64 - 1)
+    × TakesBrought d.registry c.id b × HasRoomFor d.registry d.policy c.id b
 Fits d (change.Expects q) =
     (expect_answer q.asker q.cookie d.requests ≡ Ok tt) × (length d.requests < 8192)
 Fits d (change.Acquires id flags n verdict) =
@@ -141,6 +184,10 @@ Fits d (change.AddsRule id cookie conditions replace) =
     (rule_refusal d.rules id cookie conditions.items replace ≡ None)
     × (length (rules_left d.rules.rules id cookie replace) < 4096)
 Fits d (change.RemovesRules id cookie) = remove_refusal d.rules id cookie ≡ None
+Fits d (change.SetsPolicy o entries) = TakesEntries d.policy o entries.items
+Fits d (change.AddsEndpoint label number entries) =
+    (add_answer d.endpoints label ≡ Ok number)
+    × TakesEntries d.policy (owner.Endpoint number) entries.items
 Fits d _ = Unit {0}
 
 -- the length of a slice

@@ -16,6 +16,8 @@ pub mod Arriving
 pub mod News
 -- steps: names and their owners
 pub mod Owners
+-- steps: endpoints
+pub mod Keeping
 -- steps: what a rule asks for
 pub mod Asking
 -- steps: the lines of a listing

@@ -2,7 +2,9 @@
 use Rattle.std.specs.Prelude.{ℕ, Bool, true, false, not, ◌&&◌, ◌||◌, List, ◌==◌, Some, None, Result, Ok, Err, is_none, is_some}
 use Rattle.kd_types.specs.declared.refusal.Refusal.{Refusal}
 use Rattle.kd_types.specs.declared.refusal.Refusal.TheVariants.{Unsupported}
-use Rattle.kd_model.specs.Words.{is_empty, first_that_holds}
+use Rattle.kd_model.specs.Words.{all_of, first_that_holds}
+use Rattle.kd_wire.specs.declared.item.WireItem.{WireItem}
+use Rattle.kd_wire.specs.declared.item.WireItem.TheVariants as item
 use Rattle.kd_wire.specs.declared.command.Command.{Command}
 use Rattle.kd_wire.specs.declared.command.Command.TheVariants as cmd
 use Rattle.kd_wire.specs.Commands.{opcode_in}
@@ -17,13 +19,18 @@ use Rattle.kd_types.specs.declared.flags.NameFlags.{NameFlags}
 use Rattle.kd_commands.specs.declared.conn.Conn.{Conn}
 use Rattle.kd_commands.specs.Names.{activator_in, acquire_refusals, name_acquire}
 use Rattle.kd_commands.specs.Plans.{Plan}
-use Rattle.kd_commands.specs.Step.{plan, from_conn}
+use Rattle.kd_commands.specs.Step.{plan, from_conn, from_keeper}
 
--- ordinary connections on the default endpoint; messages, names, rules, the moment, and what is
--- sealed
+-- not the name of a bus
+abbrev pub is_no_bus : WireItem → Bool
+is_no_bus (item.Bus n) = false
+is_no_bus _ = true
+
+-- connections and endpoints that name no bus; messages, names, rules, policy entries, the moment, and
+-- what is sealed
 unfoldable pub is_planned : Command → Bool
-is_planned (cmd.Hello flags size send_mask receive_mask is) =
-    flags.0 == 0 && is_empty is
+is_planned (cmd.Hello flags size send_mask receive_mask is) = all_of is_no_bus is
+is_planned (cmd.EndpointMake is) = all_of is_no_bus is
 is_planned (cmd.Send flags priority dst source payload_type cookie last is) = true
 is_planned cmd.Byebye = true
 is_planned cmd.Close = true
@@ -32,23 +39,22 @@ is_planned (cmd.NameRelease n) = true
 is_planned (cmd.NameList flags) = true
 is_planned (cmd.MatchAdd replace cookie is) = true
 is_planned (cmd.MatchRemove cookie) = true
+is_planned (cmd.PolicySet is) = true
 is_planned (cmd.Tick moment) = true
 is_planned (cmd.Seal bytes) = true
 is_planned (cmd.Unseal number) = true
 is_planned (cmd.Enter creds) = true
 is_planned _ = false
 
--- nobody keeps an endpoint so far
-abbrev pub is_keeper : WhoKind → Bool
-is_keeper (who.Keeper e) = true
-is_keeper _ = false
+abbrev pub is_close : Command → Bool
+is_close cmd.Close = true
+is_close _ = false
 
 abbrev pub names_activator : Result Verdict Refusal → Bool
 names_activator (Ok v) = is_some (activator_in v)
 names_activator (Err why) = false
 
--- an acquire that isn't refused takes the name of an activator, with its messages; there are none
--- so far
+-- an acquire that isn't refused takes the name of an activator, with the messages that wait for it
 unfoldable pub takes_over : Desk → Conn → NameFlags → List ℕ → Bool
 takes_over d c flags n =
     is_none (first_that_holds (acquire_refusals d c n))
@@ -75,8 +81,16 @@ is_handover_by d (who.Conn id seat) x =
     elim (conn_of d id) [ None ↦ false | Some c ↦ is_handover d c x ]
 is_handover_by d _ x = false
 
+-- no keeper closes its endpoint so far, and no connection takes an activator's name over
+abbrev pub is_not_run_by : Desk → WhoKind → Command → Bool
+is_not_run_by d (who.Keeper e) x = is_close x
+is_not_run_by d w x = is_handover_by d w x
+
 abbrev pub is_not_run : Desk → WhoKind → Command → Bool
-is_not_run d w x = not (is_planned x) || is_keeper w || is_handover_by d w x
+is_not_run d w x = not (is_planned x) || is_not_run_by d w x
+
+unfoldable pub keeper_answered : Desk → ℕ → Command → Result Plan Refusal
+keeper_answered d e x = elim (is_close x) [ true ↦ unsupported x | false ↦ from_keeper d e x ]
 
 unfoldable pub answered : Desk → Who → Command → Result Plan Refusal
 answered d w x = elim (is_not_run d w.member x) [ true ↦ unsupported x | false ↦ plan d w x ]

@@ -2,17 +2,31 @@
 
 use kd_commands::Conn;
 use kd_match::Condition;
+use kd_policy::{Entry, Owner};
 use kd_registry::Verdict;
 use kd_replies::Request;
 use kd_seal::Sealed;
 use kd_types::{ConnId, Cookie, Moment, NameFlags, Seat, Text};
 
+/// What a connection brings along when it comes.
+#[derive(Debug, Drop)]
+pub(crate) enum Brought {
+    Nothing,
+    /// An activator: its name.
+    Name(Text),
+    /// A policy holder: its entries.
+    Entries(Vec<Entry>),
+}
+
 /// The change that a plan holds ready, with all memory that it needs.
 #[derive(Debug, Drop)]
 pub(crate) enum Change {
     Nothing,
-    /// An ordinary connection comes.
-    Arrives(Conn),
+    /// A connection comes.
+    Arrives {
+        conn: Conn,
+        brought: Brought,
+    },
     /// A connection leaves, and all that it has goes.
     Leaves(ConnId),
     /// The caller of a connection that others closed knows it, and its seat is free again.
@@ -57,6 +71,17 @@ pub(crate) enum Change {
     RemovesRules {
         id: ConnId,
         cookie: Cookie,
+    },
+    /// The owner has these policy entries in place of those that it had.
+    SetsPolicy {
+        owner: Owner,
+        entries: Vec<Entry>,
+    },
+    /// There is an endpoint more, with its first entries.
+    AddsEndpoint {
+        label: Text,
+        number: u8,
+        entries: Vec<Entry>,
     },
     /// The moment goes on, and what is due goes.
     Passes(Moment),

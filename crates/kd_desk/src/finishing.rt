@@ -1,22 +1,22 @@
 //! Ending a plan: by what the pools answered, its change is made or isn't.
 
-ghost use Rattle.std.specs.Prelude.{◌≡◌, ◌==◌, ◌≤◌, ◌<◌, ◌^◌, ◌-◌, ℕ, [], ◌∷◌, length, nat_lt, position, vec_capacity, vec_len, Ok};
+ghost use Rattle.std.specs.Prelude.{◌≡◌, ◌==◌, ◌≤◌, ◌<◌, ◌^◌, ◌+◌, ◌-◌, ℕ, [], ◌∷◌, length, nat_lt, position, vec_capacity, vec_len, Ok};
 ghost use Rattle.kd_model.specs.Words.{but_those, put_in_order};
 ghost use Rattle.kd_registry.specs.Claims.{asked, release_answer};
 ghost use Rattle.kd_replies.specs.Requests.{is_due};
-ghost use Rattle.kd_desk.specs.Drafts.{Fits, applied};
+ghost use Rattle.kd_desk.specs.Drafts.{Fits, HasRoomFor, TakesBrought, applied, policy_brought, registry_brought};
 ghost use Rattle.kd_commands.specs.State.{sits_before, unblocked};
 ghost use Rattle.kd_commands.specs.Leaving.{without_conns};
 ghost use Rattle.kd_commands.specs.Names.{with_claim, without_claim};
 ghost use Rattle.kd_desk.specs.Outs.{ended_on, is_needed, stops};
 
-use crate::change::Change;
+use crate::change::{Brought, Change};
 use crate::desk::{Desk, SEATS};
 use crate::part::{Out, Part};
 use crate::plan::Plan;
 use kd_commands::Conn;
 use kd_match::Condition;
-use kd_policy::Owner;
+use kd_policy::{Entry, Owner};
 use kd_registry::Verdict;
 use kd_replies::Request;
 use kd_seal::Sealed;
@@ -100,7 +100,7 @@ impl Desk {
     {
         match change {
             Change::Nothing => (),
-            Change::Arrives(conn) => self.arrive(conn),
+            Change::Arrives { conn, brought } => self.arrive(conn, brought),
             Change::Leaves(id) => self.leave(id),
             Change::Unblocks(seat) => self.unblock(seat),
             Change::Expects(request) => self.expect(request),
@@ -121,20 +121,57 @@ impl Desk {
                 replace,
             } => self.add_rule(id, cookie, conditions, replace),
             Change::RemovesRules { id, cookie } => self.matches.remove(id, cookie).unwrap(),
+            Change::SetsPolicy { owner, entries } => self.set_policy(owner, entries),
+            Change::AddsEndpoint {
+                label,
+                number,
+                entries,
+            } => self.add_endpoint(label, number, entries),
             Change::Passes(now) => self.pass(now),
         }
     }
 
-    /// A connection comes.
-    #[tactic(auto, unfolding(crate::specs::Drafts::applied))]
-    fn arrive(&mut self, conn: Conn)
+    /// A connection comes, with what it brings.
+    #[tactic(auto, unfolding(crate::specs::Drafts::applied, crate::specs::Drafts::Fits))]
+    fn arrive(&mut self, conn: Conn, brought: Brought)
+        requires fits { Fits self.old (Change.Arrives conn brought) }
+        ensures { self.new ≡ applied (Change.Arrives conn brought) self.old }
+    {
+        let id = conn.id;
+        self.seat(conn);
+        self.take_brought(id, brought);
+    }
+
+    /// A connection more, and the next one has a higher id.
+    fn seat(&mut self, conn: Conn)
         requires room { length self.old.conns < 64 }
         requires seat { conn.seat < 64 }
         requires ids { self.old.next_id < 2 ^ 64 - 1 }
-        ensures { self.new ≡ applied (Change.Arrives conn) self.old }
+        ensures { self.new
+            ≡ record self.old {
+              conns = put_in_order sits_before conn self.old.conns;
+              next_id = self.old.next_id + 1;
+            } }
     {
         seat_conn(&mut self.conns, conn);
         self.next_id += 1;
+    }
+
+    /// An activator has its name, or a holder its entries.
+    fn take_brought(&mut self, id: ConnId, brought: Brought)
+        requires takes { TakesBrought self.old.registry id brought }
+        requires room { HasRoomFor self.old.registry self.old.policy id brought }
+        ensures { self.new
+            ≡ record self.old {
+              registry = registry_brought self.old.registry id brought;
+              policy = policy_brought self.old.policy id brought;
+            } }
+    {
+        match brought {
+            Brought::Nothing => (),
+            Brought::Name(name) => self.registry.set_activator(id, name).unwrap(),
+            Brought::Entries(entries) => drop(self.policy.put(Owner::Conn(id), entries).unwrap()),
+        }
     }
 
     /// A connection leaves, and all that it has goes.
@@ -201,6 +238,25 @@ impl Desk {
         ensures { self.new ≡ applied (Change.AddsRule id cookie conditions replace) self.old }
     {
         self.matches.add(id, cookie, conditions, replace).unwrap();
+    }
+
+    /// An owner has other policy entries; those that it had go.
+    #[tactic(auto, unfolding(crate::specs::Drafts::applied, crate::specs::Drafts::Fits))]
+    fn set_policy(&mut self, owner: Owner, entries: Vec<Entry>)
+        requires fits { Fits self.old (Change.SetsPolicy owner entries) }
+        ensures { self.new ≡ applied (Change.SetsPolicy owner entries) self.old }
+    {
+        drop(self.policy.put(owner, entries).unwrap());
+    }
+
+    /// There is an endpoint more, with its first entries.
+    #[tactic(auto, unfolding(crate::specs::Drafts::applied, crate::specs::Drafts::Fits))]
+    fn add_endpoint(&mut self, label: Text, number: u8, entries: Vec<Entry>)
+        requires fits { Fits self.old (Change.AddsEndpoint label number entries) }
+        ensures { self.new ≡ applied (Change.AddsEndpoint label number entries) self.old }
+    {
+        self.endpoints.add(label).unwrap();
+        drop(self.policy.put(Owner::Endpoint(number), entries).unwrap());
     }
 
     /// The moment goes on, and the requests that are due go.

@@ -1,29 +1,139 @@
 //! HELLO: what it comes to when a caller becomes a connection.
 
-ghost use Rattle.std.specs.Prelude.{◌≡◌, ◌<◌, ◌^◌, ◌%◌, ℕ, [], not, ◌&&◌};
-ghost use Rattle.kd_desk.specs.Arriving.{asked_plainly, plain_conn};
-ghost use Rattle.kd_desk.specs.Drafts.{PlanResult};
-ghost use Rattle.kd_commands.specs.Hello.{free_seat, hello, is_free};
+ghost use Rattle.std.specs.Prelude.{◌≡◌, ◌<◌, ◌^◌, ◌%◌, ◌++◌, [], ◌∷◌, Some, false, unwrap_or, option_map, IfOk, OnOk, IsTrue};
+ghost use Rattle.std.specs.List.{list_any};
+ghost use Rattle.kd_model.specs.Words.{first_that_holds};
+ghost use Rattle.kd_match.specs.Rules.{result_of};
+ghost use Rattle.kd_wire.specs.Refusals.{is_bad_access};
+ghost use Rattle.kd_acts.specs.State.{raise};
+ghost use Rattle.kd_commands.specs.Items.{activator_name, description_in, endpoint_in};
+ghost use Rattle.kd_commands.specs.Hello.{arrival, endpoint_of, free_seat, hello, is_free, kind_asked, newcomer};
+ghost use Rattle.kd_commands.specs.Plans.{notices};
+ghost use Rattle.kd_desk.specs.Arriving.{IsBrought, are_many, asked, name_among, is_ill_brought, is_ruled_out, is_taken, owned_first, owner_with, refusals_of_newcomer};
+ghost use Rattle.kd_desk.specs.Drafts.{HasRoomFor, PlanResult, parts_with};
 
-use crate::change::Change;
+use crate::change::{Brought, Change};
 use crate::desk::{Desk, SEATS};
+use crate::endpoints::endpoint_in;
+use crate::granting::{entries_in, has_ill_named};
 use crate::notices::News;
+use crate::offers::is_monitor;
 use crate::part::Part;
 use crate::plan::Plan;
-use kd_commands::{Conn, WhoKind};
-use kd_types::{ConnId, Creds, Kind, OwnerChange, Refusal, Seat};
-use kd_wire::Reply;
-use std::alloc::Global;
+use crate::planning::itself;
+use kd_commands::Conn;
+use kd_name::is_name;
+use kd_policy::{ENTRIES, Entry, Owner};
+use kd_types::{ConnId, Creds, HelloFlags, Kind, OwnerChange, Refusal, Seat, Text};
+use kd_wire::{Reply, WireItem, WireItems};
+use std::alloc::{AllocError, Global};
 
-/// What a caller wants that becomes an ordinary connection on the default endpoint.
-#[derive(Clone, Copy, Debug)]
+/// What a caller asks for that wants to become a connection.
+#[derive(Debug, Drop)]
 pub(crate) struct Wanted {
-    /// The size of its pool in bytes.
+    /// What it wants to be.
+    pub flags: HelloFlags,
+    /// The size of its pool in bytes; 0 for a policy holder, which has none.
     pub size: u32,
     /// Which metadata may be attached to what it sends.
     pub send_mask: u64,
     /// Which metadata it wants attached to what it receives.
     pub receive_mask: u64,
+    /// The endpoint that it comes by, its description, and the name or the policy that it brings.
+    pub items: WireItems,
+}
+
+/// What a caller wants to be.
+fn kind_asked(flags: HelloFlags) -> Kind
+    ensures { result ≡ kind_asked flags }
+{
+    if flags.activator() {
+        Kind::Activator
+    } else if flags.holder() {
+        Kind::Holder
+    } else if flags.monitor() {
+        Kind::Monitor
+    } else {
+        Kind::Ordinary
+    }
+}
+
+/// The first name, if one is given.
+fn name_among(items: &[WireItem]) -> Option<&Text>
+    ensures { option_map (λ n. n.now) result ≡ name_among items.now }
+{
+    'items: for item in items {
+        if let WireItem::Name(name) = item {
+            return Some(name);
+        }
+    }
+    None
+}
+
+/// The name that an activator stands for; without bytes where none is given.
+#[tactic(auto, using(crate::proofs::Said::name_of_activator))]
+fn activator_name(alloc: Global, items: &[WireItem]) -> Result<Text, AllocError>
+    ensures { IfOk result (λ name. name ≡ activator_name items.now) }
+{
+    match name_among(items) {
+        Some(name) => Text::of(alloc, name.bytes()),
+        None => Text::of(alloc, &[]),
+    }
+}
+
+/// What a connection calls itself, if it does.
+fn description_in(items: &[WireItem]) -> Option<&Text>
+    ensures { option_map (λ n. n.now) result ≡ description_in items.now }
+{
+    'items: for item in items {
+        if let WireItem::Description(text) = item {
+            return Some(text);
+        }
+    }
+    None
+}
+
+/// The same, copied.
+fn description_of(alloc: Global, items: &[WireItem]) -> Result<Option<Text>, AllocError>
+    ensures { IfOk result (λ text. text ≡ description_in items.now) }
+{
+    match description_in(items) {
+        Some(text) => Ok(Some(Text::of(alloc, text.bytes())?)),
+        None => Ok(None),
+    }
+}
+
+/// What a newcomer of the kind brings.
+fn brought_by(alloc: Global, kind: Kind, items: &[WireItem]) -> Result<Brought, AllocError>
+    requires numbers { list_any is_bad_access items.now ≡ false }
+    ensures { IfOk result (λ b. IsBrought kind items.now b) }
+{
+    match kind {
+        Kind::Activator => Ok(Brought::Name(activator_name(alloc, items)?)),
+        Kind::Holder => Ok(Brought::Entries(entries_in(alloc, items)?)),
+        Kind::Ordinary | Kind::Monitor => Ok(Brought::Nothing),
+    }
+}
+
+/// Whether the name of an activator is none, or a pattern of a holder.
+fn is_ill_brought(brought: &Brought) -> bool
+    ensures { result ≡ is_ill_brought brought.now }
+{
+    match brought {
+        Brought::Nothing => false,
+        Brought::Name(name) => !is_name(name.bytes()),
+        Brought::Entries(entries) => has_ill_named(entries),
+    }
+}
+
+/// Whether a holder brings more entries than one owner may have.
+fn are_many(brought: &Brought) -> bool
+    ensures { result ≡ are_many brought.now }
+{
+    match brought {
+        Brought::Entries(entries) => ENTRIES < entries.len(),
+        Brought::Nothing | Brought::Name(_) => false,
+    }
 }
 
 impl Desk {
@@ -46,11 +156,175 @@ impl Desk {
         None
     }
 
-    /// A caller becomes an ordinary connection on the default endpoint, with the masks and the pool
-    /// that it wants: on the lowest free seat, and the others are told. It is refused where no seat
-    /// is free. Where the desk had no room for one more connection, which can't come about,
-    /// memory is wanting. What a notice may borrow is named, though this one borrows none of it:
-    /// the borrow checker asks for it.
+    /// The endpoint that the items name: the default one where they name none.
+    fn endpoint_of(&self, items: &[WireItem]) -> Option<u8>
+        ensures { result ≡ endpoint_of self.now (endpoint_in items.now) }
+    {
+        match endpoint_in(items) {
+            Some(label) => self.endpoints.find(label.bytes()),
+            None => Some(0),
+        }
+    }
+
+    /// The connection that comes by this endpoint on this seat, if nothing refuses it.
+    #[tactic(auto, unfolding(kd_commands::specs::Hello::newcomer))]
+    fn newcomer(
+        &self,
+        alloc: Global,
+        creds: &Creds,
+        wanted: &Wanted,
+        endpoint: u8,
+        seat: Seat,
+    ) -> Result<Conn, AllocError>
+        requires endpoint { endpoint_of self.now (endpoint_in wanted.now.items) ≡ Some endpoint }
+        requires seat { seat ≡ unwrap_or (free_seat self.now) 0 }
+        ensures { IfOk result (λ c. c ≡ newcomer self.now creds.now (asked wanted.now)) }
+    {
+        Ok(Conn {
+            id: ConnId(self.next_id),
+            seat,
+            creds: *creds,
+            endpoint,
+            kind: kind_asked(wanted.flags),
+            size: wanted.size,
+            send_mask: wanted.send_mask,
+            receive_mask: wanted.receive_mask,
+            description: description_of(alloc, wanted.items.items())?,
+        })
+    }
+
+    /// Whether a newcomer isn't allowed what it wants: an activator to own its name, a holder and a
+    /// monitor to be what they want to be.
+    fn is_ruled_out(&self, conn: &Conn, brought: &Brought) -> bool
+        ensures { result ≡ is_ruled_out self.now conn.now brought.now }
+    {
+        match brought {
+            Brought::Nothing => {
+                is_monitor(conn) && (!self.is_privileged(&conn.creds) || conn.endpoint != 0)
+            }
+            Brought::Name(name) => !self.may_own(conn, name),
+            Brought::Entries(_) => !self.is_privileged(&conn.creds),
+        }
+    }
+
+    /// Whether the name that an activator brings is none, or has an activator.
+    fn is_taken(&self, brought: &Brought) -> bool
+        ensures { result ≡ is_taken self.now brought.now }
+    {
+        match brought {
+            Brought::Name(name) => self.registry.may_activate(name.bytes()).is_err(),
+            Brought::Nothing | Brought::Entries(_) => false,
+        }
+    }
+
+    /// Why the newcomer doesn't come.
+    #[tactic(auto, unfolding(crate::specs::Arriving::refusals_of_newcomer))]
+    fn judge_newcomer(&self, conn: &Conn, brought: &Brought) -> Result<(), Refusal>
+        ensures { result
+            ≡ result_of (first_that_holds (refusals_of_newcomer self.now conn.now brought.now)) }
+    {
+        if is_ill_brought(brought) {
+            return Err(Refusal::BadName);
+        }
+        if self.is_ruled_out(conn, brought) {
+            return Err(Refusal::NotPermitted);
+        }
+        if self.is_taken(brought) {
+            return Err(Refusal::NameTaken);
+        }
+        if are_many(brought) {
+            return Err(Refusal::TooMany { limit: 256 });
+        }
+        if self.free_seat().is_none() {
+            return Err(Refusal::TooMany { limit: 64 });
+        }
+        Ok(())
+    }
+
+    /// Whether there is room for what a newcomer brings, as there always is.
+    fn has_room_for(&self, id: ConnId, brought: &Brought) -> bool
+        ensures { IsTrue result → HasRoomFor self.now.registry self.now.policy id brought.now }
+    {
+        match brought {
+            Brought::Nothing => true,
+            Brought::Name(_) => self.registry.has_room(),
+            Brought::Entries(_) => self.policy.has_room(Owner::Conn(id)),
+        }
+    }
+
+    /// The others are told of the newcomer, unless it is a monitor. What a notice may borrow is
+    /// named, though this one borrows none of it: the borrow checker asks for it.
+    fn tell_arrival(
+        &self,
+        alloc: Global,
+        parts: &mut Vec<Part>,
+        conn: &Conn,
+    ) -> Result<(), AllocError>
+        ensures { OnOk result (parts_with [] parts.new.items
+            ≡ parts_with [] parts.old.items ++ notices self.now (arrival conn.now)) }
+    {
+        let _change: Option<&OwnerChange> = None;
+        if is_monitor(conn) {
+            return Ok(());
+        }
+        self.tell(alloc, parts, &News::Came(conn.id), None)
+    }
+
+    /// Who owns the name when an activator has it.
+    fn owner_with(&self, name: &Text, id: ConnId) -> ConnId
+        ensures { result ≡ owner_with self.now.registry name.now id }
+    {
+        match self.registry.owner(name.bytes()) {
+            Some((owner, _)) => owner,
+            None => id,
+        }
+    }
+
+    /// The posts of the notice that a newcomer owns its name, where nobody does.
+    fn first_owner_posts(
+        &self,
+        alloc: Global,
+        id: ConnId,
+        brought: &Brought,
+    ) -> Result<Vec<Part>, AllocError>
+        ensures { IfOk result (λ parts.
+            parts_with [] parts.items ≡ notices self.now (owned_first self.now id brought.now)) }
+    {
+        match brought {
+            Brought::Name(name) => {
+                let (old, new) = (self.owner_id(name), self.owner_with(name, id));
+                self.moved_posts(alloc, name, old, new)
+            }
+            Brought::Nothing | Brought::Entries(_) => Ok(Vec::new(alloc)),
+        }
+    }
+
+    /// The visits of a HELLO: its pool is raised, and the others are told.
+    fn arrival_parts(
+        &self,
+        alloc: Global,
+        conn: &Conn,
+        brought: &Brought,
+    ) -> Result<Vec<Part>, AllocError>
+        ensures { IfOk result (λ parts.
+            parts_with [] parts.items
+            ≡ record { seat = conn.now.seat; act = raise conn.now.size }
+            ∷ notices self.now (arrival conn.now ++ owned_first self.now conn.now.id brought.now)) }
+    {
+        let mut parts = Vec::new(alloc);
+        parts.push(Part::Raise {
+            seat: conn.seat,
+            size: conn.size,
+        })?;
+        self.tell_arrival(alloc, &mut parts, conn)?;
+        let mut posts = self.first_owner_posts(alloc, conn.id, brought)?;
+        parts.append(&mut posts)?;
+        Ok(parts)
+    }
+
+    /// A caller becomes a connection of the kind that it asks for, by the endpoint that it names:
+    /// on the lowest free seat, with its pool, and the others are told. Where the desk had no room
+    /// for it, which can't come about, memory is wanting.
     pub(crate) fn plan_hello(
         &self,
         alloc: Global,
@@ -58,23 +332,25 @@ impl Desk {
         wanted: Wanted,
     ) -> Result<Plan, Refusal>
         requires eights { wanted.size % 8 ≡ 0 }
+        requires numbers { list_any is_bad_access wanted.items ≡ false }
         requires ids { self.now.next_id < 2 ^ 63 }
-        ensures { PlanResult self.now (hello self.now creds.now (asked_plainly wanted)) result }
+        ensures { PlanResult self.now (hello self.now creds.now (asked wanted)) result }
     {
-        let _change: Option<&OwnerChange> = None;
-        let Some(seat) = self.free_seat() else {
-            return Err(Refusal::TooMany { limit: 64 });
+        let Some(endpoint) = self.endpoint_of(wanted.items.items()) else {
+            return Err(Refusal::NoSuchEndpoint);
         };
+        let seat = self.free_seat().unwrap_or(Seat(0));
+        let conn = self.newcomer(alloc, creds, &wanted, endpoint, seat)?;
+        let brought = brought_by(alloc, conn.kind, wanted.items.items())?;
+        self.judge_newcomer(&conn, &brought)?;
         if SEATS <= self.conns.len() {
             return Err(Refusal::OutOfMemory);
         }
-        let id = ConnId(self.next_id);
-        let mut parts = Vec::new(alloc);
-        parts.push(Part::Raise {
-            seat,
-            size: wanted.size,
-        })?;
-        self.tell(alloc, &mut parts, &News::Came(id), None)?;
+        if !self.has_room_for(conn.id, &brought) {
+            return Err(Refusal::OutOfMemory);
+        }
+        let parts = self.arrival_parts(alloc, &conn, &brought)?;
+        let (id, after) = (conn.id, itself(&conn));
         Ok(Plan {
             parts,
             contents: Vec::new(alloc),
@@ -83,25 +359,8 @@ impl Desk {
                 size: u64::from(self.param.size),
                 hashes: u64::from(self.param.hashes),
             },
-            change: Change::Arrives(newcomer(id, seat, creds, wanted)),
-            after: WhoKind::Conn { id, seat },
+            change: Change::Arrives { conn, brought },
+            after,
         })
-    }
-}
-
-/// An ordinary connection on the default endpoint.
-fn newcomer(id: ConnId, seat: Seat, creds: &Creds, wanted: Wanted) -> Conn
-    ensures { result ≡ plain_conn id seat creds.now wanted }
-{
-    Conn {
-        id,
-        seat,
-        creds: *creds,
-        endpoint: 0,
-        kind: Kind::Ordinary,
-        size: wanted.size,
-        send_mask: wanted.send_mask,
-        receive_mask: wanted.receive_mask,
-        description: None,
     }
 }

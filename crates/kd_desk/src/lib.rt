@@ -10,12 +10,12 @@
 //! ```
 //!
 //! What a plan is stands in `kd_commands`, command by command. The code plans the commands of
-//! `Runs`: HELLO of an ordinary connection on the default endpoint, SEND, BYEBYE, CLOSE, ENTER, TICK,
-//! SEAL and UNSEAL, the two on rules and the three on names; every other is refused as
-//! `Unsupported`. A planner is a file of its own: `hello`,
-//! `sending`, `leaving`, `naming`, `listing`, `matching`, `sealing`, `ticking`; `finishing` makes the
-//! change of a plan. A message is judged by `sending`, `sharing` and `routing`, and its offers are
-//! made by `offers` and `broadcasting`.
+//! `Runs`: HELLO and ENDPOINT_MAKE that name no bus, SEND, BYEBYE, CLOSE of a connection, ENTER, TICK,
+//! POLICY_SET, SEAL and UNSEAL, the two on rules and the three on names; every other is refused as
+//! `Unsupported`. A planner is a file of its own: `hello`, `endpoints`, `granting`, `sending`,
+//! `leaving`, `naming`, `listing`, `matching`, `sealing`, `ticking`; `finishing` makes the change of a
+//! plan. A message is judged by `sending`, `sharing` and `routing`, and its offers are made by
+//! `offers` and `broadcasting`.
 #![tactic(auto)]
 
 mod attaching;
@@ -23,7 +23,9 @@ mod broadcasting;
 mod change;
 mod content;
 mod desk;
+mod endpoints;
 mod finishing;
+mod granting;
 mod hello;
 mod leaving;
 mod listing;

@@ -70,7 +70,7 @@ impl Desk {
 
     /// The posts of the notice of a name's new owner, where it isn't the old one.
     #[tactic(auto, using(crate::proofs::Visits::nothing_offered))]
-    fn moved_posts(
+    pub(crate) fn moved_posts(
         &self,
         alloc: Global,
         name: &Text,

@@ -96,7 +96,7 @@ pub(crate) struct Letter {
 }
 
 /// Whether it is shown what others are told.
-fn is_monitor(conn: &Conn) -> bool
+pub(crate) fn is_monitor(conn: &Conn) -> bool
     ensures { result ≡ is_monitor conn.now.kind }
 {
     matches!(conn.kind, Kind::Monitor)

@@ -1,14 +1,15 @@
 //! A command's plan: what isn't run yet, then who may give what.
 
-ghost use Rattle.std.specs.Prelude.{◌≡◌, ◌<◌, ◌^◌, [], Some, false, not, IsTrue, IfSome, option_map};
+ghost use Rattle.std.specs.Prelude.{◌≡◌, ◌<◌, ◌^◌, ◌||◌, [], Some, true, not, IsTrue, IfSome, option_map};
 ghost use Rattle.std.specs.Borrow.{Bor};
 ghost use Rattle.kd_wire.specs.Commands.{opcode_in};
 ghost use Rattle.kd_wire.specs.Opcodes.{opcode_number};
 ghost use Rattle.kd_wire.specs.WellFormed.{is_well_formed};
 ghost use Rattle.kd_desk.specs.Drafts.{PlanResult, quiet_draft};
-ghost use Rattle.kd_desk.specs.Runs.{answered, conn_answered, is_handover_by, is_not_run, is_planned, takes_over};
+ghost use Rattle.kd_model.specs.Words.{all_of};
+ghost use Rattle.kd_desk.specs.Runs.{answered, conn_answered, is_handover_by, is_no_bus, is_not_run, is_planned, keeper_answered, takes_over};
 ghost use Rattle.kd_commands.specs.Plans.{itself};
-ghost use Rattle.kd_commands.specs.State.{conn_of, is_ordinary};
+ghost use Rattle.kd_commands.specs.State.{conn_of, is_activator, is_monitor};
 ghost use Rattle.kd_commands.specs.Step.{from_fresh, from_gone, from_old_keeper};
 ghost use Rattle.kd_commands.specs.declared.conn.Conn as conn;
 
@@ -18,18 +19,28 @@ use crate::hello::Wanted;
 use crate::naming::has_activator;
 use crate::plan::Plan;
 use kd_commands::{Conn, Sent, Who, WhoKind};
+use kd_policy::Owner;
 use kd_types::{ConnId, Creds, Kind, NameFlags, Refusal, Seat, Text};
-use kd_wire::{Command, Reply};
+use kd_wire::{Command, Reply, WireItem};
 use std::alloc::Global;
 
-/// Whether the command is run so far: ordinary connections on the default endpoint; messages, names,
-/// rules, the moment, and what is sealed.
+/// Whether no bus is named.
+fn names_no_bus(items: &[WireItem]) -> bool
+    ensures { result ≡ all_of is_no_bus items.now }
+{
+    items
+        .iter()
+        .all(|item| !matches!(item, WireItem::Bus(_)))
+}
+
+/// Whether the command is run so far: connections and endpoints that name no bus; messages, names,
+/// rules, policy entries, the moment, and what is sealed.
 #[tactic(auto, unfolding(crate::specs::Runs::is_planned))]
 fn runs(cmd: &Command) -> bool
     ensures { result ≡ is_planned cmd.now }
 {
     match cmd {
-        Command::Hello { flags, items, .. } => flags.word() == 0 && items.items().is_empty(),
+        Command::Hello { items, .. } | Command::EndpointMake { items } => names_no_bus(items.items()),
         Command::Send { .. }
         | Command::Byebye
         | Command::Close
@@ -38,6 +49,7 @@ fn runs(cmd: &Command) -> bool
         | Command::NameList { .. }
         | Command::MatchAdd { .. }
         | Command::MatchRemove { .. }
+        | Command::PolicySet { .. }
         | Command::Tick { .. }
         | Command::Seal { .. }
         | Command::Unseal { .. }
@@ -123,7 +135,7 @@ impl Desk {
             return false;
         }
         match who.member {
-            WhoKind::Keeper(_) => false,
+            WhoKind::Keeper(_) => !matches!(cmd, Command::Close),
             member => !self.is_handover(member, cmd),
         }
     }
@@ -132,7 +144,7 @@ impl Desk {
     /// that isn't run yet is `Unsupported`, then a caller that may not give it at all is in the
     /// `WrongState`, and then the command's own come in their order. Nothing changes; the plan
     /// takes all memory of the command, or the refusal is `OutOfMemory`.
-    #[tactic(auto, unfolding(crate::specs::Runs::answered, crate::specs::Runs::conn_answered, kd_commands::specs::Step::plan))]
+    #[tactic(auto, unfolding(crate::specs::Runs::answered, crate::specs::Runs::conn_answered, crate::specs::Runs::keeper_answered, kd_commands::specs::Step::plan))]
     pub fn plan(&self, alloc: Global, who: &Who, cmd: Command) -> Result<Plan, Refusal>
         requires form { IsTrue (is_well_formed cmd) }
         requires ids { self.now.next_id < 2 ^ 63 }
@@ -147,7 +159,7 @@ impl Desk {
                 Some(conn) => self.from_conn(alloc, conn, cmd),
                 None => self.from_gone(alloc, seat, cmd),
             },
-            WhoKind::Keeper(_) => Err(unsupported(&cmd)),
+            WhoKind::Keeper(endpoint) => self.from_keeper(alloc, endpoint, cmd),
             WhoKind::Old(Some(seat)) => self.from_gone(alloc, seat, cmd),
             WhoKind::Old(None) => self.from_old_keeper(alloc, cmd),
         }
@@ -163,18 +175,23 @@ impl Desk {
     {
         match cmd {
             Command::Hello {
+                flags,
                 pool,
                 send_mask,
                 receive_mask,
-                ..
-            } => {
-                let wanted = Wanted {
+                items,
+            } => self.plan_hello(
+                alloc,
+                creds,
+                Wanted {
+                    flags,
                     size: pool,
                     send_mask,
                     receive_mask,
-                };
-                self.plan_hello(alloc, creds, wanted)
-            }
+                    items,
+                },
+            ),
+            Command::EndpointMake { items } => self.plan_endpoint_make(alloc, creds, items.items()),
             Command::Enter { .. } => Ok(quiet(
                 alloc,
                 Reply::Enter,
@@ -188,22 +205,45 @@ impl Desk {
 
     /// A live connection.
     fn from_conn(&self, alloc: Global, conn: &Conn, cmd: Command) -> Result<Plan, Refusal>
+        requires form { IsTrue (is_well_formed cmd) }
         requires runs { IsTrue (is_planned cmd) }
         requires live { conn_of self.now conn.now.id ≡ Some conn.now }
         ensures { PlanResult self.now (conn_answered self.now conn.now cmd) result }
     {
         match conn.kind {
             Kind::Ordinary => self.from_ordinary(alloc, conn, cmd),
-            Kind::Activator | Kind::Holder | Kind::Monitor => self.from_other(alloc, conn, cmd),
+            Kind::Holder => self.from_holder(alloc, conn, cmd),
+            Kind::Activator | Kind::Monitor => self.from_other(alloc, conn, cmd),
         }
     }
 
-    /// A live connection that neither sends nor owns names by itself.
+    /// A live policy holder.
+    #[tactic(auto, unfolding(crate::specs::Runs::conn_answered, crate::specs::Runs::is_planned))]
+    fn from_holder(&self, alloc: Global, conn: &Conn, cmd: Command) -> Result<Plan, Refusal>
+        requires form { IsTrue (is_well_formed cmd) }
+        requires runs { IsTrue (is_planned cmd) }
+        requires live { conn_of self.now conn.now.id ≡ Some conn.now }
+        requires holder { conn.now.kind ≡ Kind.Holder }
+        ensures { PlanResult self.now (conn_answered self.now conn.now cmd) result }
+    {
+        match cmd {
+            Command::Byebye => self.plan_byebye(alloc, conn),
+            Command::Close => self.plan_close(alloc, conn),
+            Command::NameList { flags } => self.plan_name_list(alloc, conn, flags),
+            Command::Tick { moment } => self.plan_tick(alloc, conn, moment),
+            Command::PolicySet { items } => {
+                self.plan_policy_set(alloc, &Owner::Conn(conn.id), itself(conn), items.items())
+            }
+            _ => Err(Refusal::WrongState),
+        }
+    }
+
+    /// A live activator or monitor, which neither sends nor owns names by itself.
     #[tactic(auto, unfolding(crate::specs::Runs::conn_answered, crate::specs::Runs::is_planned))]
     fn from_other(&self, alloc: Global, conn: &Conn, cmd: Command) -> Result<Plan, Refusal>
         requires runs { IsTrue (is_planned cmd) }
         requires live { conn_of self.now conn.now.id ≡ Some conn.now }
-        requires other { is_ordinary conn.now.kind ≡ false }
+        requires other { (is_activator conn.now.kind || is_monitor conn.now.kind) ≡ true }
         ensures { PlanResult self.now (conn_answered self.now conn.now cmd) result }
     {
         match cmd {
@@ -260,6 +300,23 @@ impl Desk {
             Command::MatchRemove { cookie } => self.plan_match_remove(alloc, conn, cookie),
             Command::Seal { payload } => self.plan_seal(alloc, conn, payload),
             Command::Unseal { number } => self.plan_unseal(alloc, conn, number),
+            _ => Err(Refusal::WrongState),
+        }
+    }
+
+    /// The keeper of an endpoint.
+    #[tactic(auto, unfolding(crate::specs::Runs::keeper_answered, crate::specs::Runs::is_planned))]
+    fn from_keeper(&self, alloc: Global, endpoint: u8, cmd: Command) -> Result<Plan, Refusal>
+        requires form { IsTrue (is_well_formed cmd) }
+        requires runs { IsTrue (is_planned cmd) }
+        ensures { PlanResult self.now (keeper_answered self.now endpoint cmd) result }
+    {
+        match cmd {
+            Command::PolicySet { items } => {
+                let owner = Owner::Endpoint(endpoint);
+                self.plan_policy_set(alloc, &owner, WhoKind::Keeper(endpoint), items.items())
+            }
+            Command::Close => Err(Refusal::Unsupported { cmd: 7 }),
             _ => Err(Refusal::WrongState),
         }
     }

@@ -3,7 +3,7 @@ use Rattle.std.proofs.Common.{arith}
 use Rattle.kd_model.proofs.Lists.{all_of_put}
 use Rattle.kd_commands.specs.State.{sits_before}
 use Rattle.kd_desk.specs.Room.{IsSeated}
-use Rattle.kd_desk.proofs.desk.Desk.arrive.Goals as goal
+use Rattle.kd_desk.proofs.desk.Desk.seat.Goals as goal
 
 pub invariant_of-self : goal.invariant_of-self
 invariant_of-self c = record {
