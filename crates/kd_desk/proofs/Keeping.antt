@@ -78,9 +78,9 @@ make_fits d creds label es n judged =
     let ill = fail.0 in
     let label_is : not (is_label label) ≡ false = left_false (not (is_label label)) (some_of is_ill_named es) ill in (
       ap (λ o. by_judge o (next_endpoint d))
-      (skip (not (is_label label)) BadName (new_label d label) label_is
-      ∙ skip (is_some (label_number d.endpoints label)) EndpointExists ((is_none (free_place d.endpoints), TooMany 8) ∷ []) fail.1.1.1.0
-      ∙ skip (is_none (free_place d.endpoints)) (TooMany 8) [] fail.1.1.1.1.1.0)
+          (skip (not (is_label label)) BadName (new_label d label) label_is
+          ∙ skip (is_some (label_number d.endpoints label)) EndpointExists ((is_none (free_place d.endpoints), TooMany 8) ∷ []) fail.1.1.1.0
+          ∙ skip (is_none (free_place d.endpoints)) (TooMany 8) [] fail.1.1.1.1.1.0)
           ∙ ap Ok (sym fine.1),
       skip (some_of is_ill_named es) BadName ((some_of has_star es, BadFlags) ∷ (nat_lt 256 (length es), TooMany 256) ∷ []) (right_false (not (is_label label)) (some_of is_ill_named es) ill)
           ∙ skip (some_of has_star es) BadFlags ((nat_lt 256 (length es), TooMany 256) ∷ []) fail.1.0

@@ -55,12 +55,7 @@ fn is_ill_said(label: &[u8], entries: &[Entry]) -> bool
 impl Desk {
     /// The number that an endpoint of this label and with these entries gets, or why none is made.
     #[tactic(auto, unfolding(crate::specs::Keeping::endpoint_judged))]
-    fn judge_endpoint(
-        &self,
-        creds: &Creds,
-        label: &[u8],
-        entries: &[Entry],
-    ) -> Result<u8, Refusal>
+    fn judge_endpoint(&self, creds: &Creds, label: &[u8], entries: &[Entry]) -> Result<u8, Refusal>
         ensures { result ≡ endpoint_judged self.now creds.now label.now entries.now }
     {
         if is_ill_said(label, entries) {
@@ -103,11 +98,6 @@ impl Desk {
             number,
             entries,
         };
-        Ok(quiet(
-            alloc,
-            Reply::EndpointMake,
-            change,
-            WhoKind::Keeper(number),
-        ))
+        Ok(quiet(alloc, Reply::EndpointMake, change, WhoKind::Keeper(number)))
     }
 }

@@ -28,9 +28,7 @@ use std::alloc::Global;
 fn names_no_bus(items: &[WireItem]) -> bool
     ensures { result ≡ all_of is_no_bus items.now }
 {
-    items
-        .iter()
-        .all(|item| !matches!(item, WireItem::Bus(_)))
+    items.iter().all(|item| !matches!(item, WireItem::Bus(_)))
 }
 
 /// Whether the command is run so far: connections and endpoints that name no bus; messages, names,
@@ -40,7 +38,9 @@ fn runs(cmd: &Command) -> bool
     ensures { result ≡ is_planned cmd.now }
 {
     match cmd {
-        Command::Hello { items, .. } | Command::EndpointMake { items } => names_no_bus(items.items()),
+        Command::Hello { items, .. } | Command::EndpointMake { items } => names_no_bus(
+            items.items(),
+        ),
         Command::Send { .. }
         | Command::Byebye
         | Command::Close
