@@ -1,6 +1,6 @@
 -- What a HELLO comes to.
-use Rattle.std.proofs.Common.{◌≡◌, ◌<◌, ◌%◌, ℕ, Bool, true, false, not, cond, ◌&&◌, List, [], ◌∷◌, ◌++◌, length, map, Option, Some, None, Result, Ok, Err, refl, sym, ap, ◌∙◌, arith}
-use Rattle.std.specs.Prelude.{◌==◌, ◌||◌, is_err, filter, flat_map, is_none, nat_lt, unwrap_or}
+use Rattle.std.proofs.Common.{◌≡◌, ◌<◌, ◌%◌, ℕ, Bool, true, false, not, cond, ◌&&◌, List, [], ◌∷◌, ◌++◌, Option, Some, None, Result, Ok, Err, refl, sym, ap, ◌∙◌, arith}
+use Rattle.std.specs.Prelude.{◌==◌, ◌||◌, is_err, filter, is_none, unwrap_or}
 use Rattle.std.specs.List.{AllByRecursion}
 use Rattle.std.proofs.lemmas.Bool.Decides.{nat_tests}
 use Rattle.std.proofs.lemmas.Grind.{flat_map-append}
@@ -11,28 +11,26 @@ use Rattle.kd_types.specs.declared.owner_change.OwnerChange.{OwnerChange}
 use Rattle.kd_types.specs.declared.refusal.Refusal.{Refusal}
 use Rattle.kd_types.specs.declared.refusal.Refusal.TheVariants.{BadName, NoSuchEndpoint, NotPermitted, NameTaken, TooMany}
 use Rattle.kd_model.specs.Words.{first_that_holds, put_in_order, some_of}
-use Rattle.kd_model.proofs.Truth.{or_false}
 use Rattle.kd_name.specs.Names.{is_name}
 use Rattle.kd_wire.specs.declared.item.WireItem.{WireItem}
 use Rattle.kd_wire.specs.declared.reply.Reply.TheVariants as reply
-use Rattle.kd_policy.specs.declared.owner.Owner.TheVariants as owner
-use Rattle.kd_policy.specs.Policy.{is_ill_named, put_refusal}
-use Rattle.kd_registry.specs.Claims.{activator_answer, after_activator, is_placeholder, owner_id, ranks}
+use Rattle.kd_policy.specs.Policy.{put_refusal}
+use Rattle.kd_registry.specs.Claims.{activator_answer, is_placeholder, owner_id, ranks}
 use Rattle.kd_acts.specs.State.{Content, raise}
 use Rattle.kd_match.specs.Told as told
 use Rattle.kd_commands.proofs.Seats.{free_below}
 use Rattle.kd_commands.specs.declared.conn.Conn.{Conn}
-use Rattle.kd_commands.specs.State.{Desk, is_activator, is_monitor, sits_before}
-use Rattle.kd_commands.specs.Audience.{Subject, asks_for, audience, id_add, is_shown, is_told, new_owner, owner_change, telling}
-use Rattle.kd_commands.specs.Hello.{Asked, arrival, endpoint_of, first_owner, free_seat, has_activator, hello, hello_plan, hello_refusals, is_forbidden, newcomer, registry_with, with_newcomer}
-use Rattle.kd_commands.specs.Items.{activator_name, endpoint_in, entries_in}
-use Rattle.kd_commands.specs.Plans.{Part, Plan, itself, notices, posted, posted_to, posts, unless}
-use Rattle.kd_commands.specs.Rights.{is_privileged, may_own, may_see_name}
+use Rattle.kd_commands.specs.State.{Desk, is_monitor, sits_before}
+use Rattle.kd_commands.specs.Audience.{Subject, asks_for, audience, id_add, is_shown, is_told, new_owner, telling}
+use Rattle.kd_commands.specs.Hello.{Asked, arrival, endpoint_of, first_owner, free_seat, hello, hello_plan, hello_refusals, newcomer, with_newcomer}
+use Rattle.kd_commands.specs.Items.{endpoint_in}
+use Rattle.kd_commands.specs.Plans.{Part, Plan, itself, notices, posted_to, posts}
+use Rattle.kd_commands.specs.Rights.{may_own, may_see_name}
 use Rattle.kd_desk.specs.declared.change.Brought.{Brought}
 use Rattle.kd_desk.specs.declared.change.Brought.TheVariants as brought
 use Rattle.kd_desk.specs.declared.change.Change.TheVariants as change
 use Rattle.kd_desk.specs.declared.part.Part as code
-use Rattle.kd_desk.specs.Arriving.{IsBrought, are_many, is_ill_brought, is_ruled_out, is_taken, owned_first, owner_with, refusals_of_newcomer}
+use Rattle.kd_desk.specs.Arriving.{IsBrought, owned_first, owner_with, refusals_of_newcomer}
 use Rattle.kd_desk.specs.Drafts.{Draft, IsVisitable, StandByOffers, TakesBrought, applied, drafted, parts_with}
 use Rattle.kd_desk.specs.Owners.{moved}
 use Rattle.kd_desk.specs.Room.{IsSeated}

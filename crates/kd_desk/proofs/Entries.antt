@@ -1,5 +1,5 @@
 -- The entries of a policy, item by item.
-use Rattle.std.proofs.Common.{◌≡◌, ◌<◌, ◌+◌, ℕ, zero, suc, Bool, true, false, not, ◌&&◌, List, [], ◌∷◌, ◌++◌, length, take, get_or, Option, Some, None, Result, Ok, Err, refl, sym, ap, ◌∙◌, arith}
+use Rattle.std.proofs.Common.{◌≡◌, ◌<◌, ◌+◌, ℕ, zero, suc, Bool, true, false, not, ◌&&◌, List, [], ◌∷◌, ◌++◌, length, take, get_or, Some, None, Ok, Err, refl, sym, ap, ◌∙◌, arith}
 use Rattle.std.specs.Prelude.{◌||◌, nat_lt, nat_le, is_some}
 use Rattle.std.specs.List.{list_any}
 use Rattle.std.proofs.lemmas.List.{take_more}
@@ -16,7 +16,7 @@ use Rattle.kd_policy.specs.Policy.{Policy, after_put, place_of, put_refusal}
 use Rattle.kd_commands.specs.declared.who.WhoKind.{WhoKind}
 use Rattle.kd_commands.specs.State.{Desk}
 use Rattle.kd_commands.specs.Items.{entries_for, entries_in, level_named, subject_named}
-use Rattle.kd_commands.specs.Plans.{Plan, unless_refused}
+use Rattle.kd_commands.specs.Plans.{unless_refused}
 use Rattle.kd_commands.specs.Policy.{policy_set}
 
 -- the name that the accesses behind some items are to

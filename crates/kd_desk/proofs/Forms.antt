@@ -7,7 +7,7 @@ use Rattle.kd_types.specs.declared.refusal.Refusal.{Refusal}
 use Rattle.std.specs.List.{list_any}
 use Rattle.kd_types.specs.declared.refusal.Refusal.TheVariants.{DoubledItem, MissingItem, BadFlags}
 use Rattle.kd_model.specs.Words.{first_that_holds}
-use Rattle.kd_model.proofs.Truth.{left_false, left_true, not_false, right_false, right_true}
+use Rattle.kd_model.proofs.Truth.{left_false, not_false, right_false, right_true}
 use Rattle.kd_wire.specs.Kinds.{has_holder_flag, kinds_of, single_kinds, needed_kinds}
 use Rattle.kd_wire.specs.Reading.{stand}
 use Rattle.kd_wire.specs.Frames.{frame_length}

@@ -1,12 +1,12 @@
 -- What an endpoint comes to.
-use Rattle.std.proofs.Common.{◌≡◌, ◌≤◌, ℕ, Bool, true, false, not, List, [], ◌∷◌, length, Option, Some, None, Result, Ok, Err, refl, sym, ap, ◌∙◌, arith}
+use Rattle.std.proofs.Common.{◌≡◌, ◌≤◌, ℕ, Bool, true, false, not, List, [], ◌∷◌, length, None, Ok, Err, refl, sym, ap, ◌∙◌, arith}
 use Rattle.std.proofs.lemmas.Bool.Decides.{nat_tests}
-use Rattle.std.specs.Prelude.{◌+◌, ◌||◌, ◌&&◌, is_some, is_none, nat_lt, unwrap_or}
+use Rattle.std.specs.Prelude.{◌||◌, is_some, is_none, nat_lt}
 use Rattle.kd_types.specs.declared.creds.Creds.{Creds}
 use Rattle.kd_types.specs.declared.refusal.Refusal.{Refusal}
 use Rattle.kd_types.specs.declared.refusal.Refusal.TheVariants.{BadName, BadFlags, TooMany, NotPermitted, EndpointExists}
 use Rattle.kd_model.specs.Words.{first_that_holds, some_of}
-use Rattle.kd_model.proofs.Truth.{left_false, not_false, right_false}
+use Rattle.kd_model.proofs.Truth.{left_false, right_false}
 use Rattle.kd_name.specs.Names.{is_label}
 use Rattle.kd_wire.specs.declared.item.WireItem.{WireItem}
 use Rattle.kd_wire.specs.declared.reply.Reply.TheVariants as reply
@@ -18,7 +18,7 @@ use Rattle.kd_commands.specs.declared.who.WhoKind.TheVariants as who
 use Rattle.kd_commands.specs.State.{Desk}
 use Rattle.kd_commands.specs.Endpoints.{endpoint_make, endpoint_refusals, label_in, next_endpoint, with_endpoint}
 use Rattle.kd_commands.specs.Items.{entries_in}
-use Rattle.kd_commands.specs.Plans.{Plan, unless}
+use Rattle.kd_commands.specs.Plans.{Plan}
 use Rattle.kd_commands.specs.Rights.{is_privileged}
 use Rattle.kd_desk.specs.Keeping.{endpoint_judged, endpoint_tests}
 use Rattle.kd_desk.proofs.Quiet.{all_fail, by_judge, skip, judged_err, judged_ok, unless_none, unless_why}

@@ -1,5 +1,5 @@
 -- Offers: their parts, the seats of their receivers, and their lengths.
-use Rattle.std.proofs.Common.{◌≡◌, ℕ, ◌%◌, ◌<◌, suc, zero, Bool, true, false, is_some, sym, map, List, [], ◌∷◌, ◌++◌, length, get_or, Option, Some, None, cond, ◌+◌, take, refl, ap, ◌∙◌, arith, length-append}
+use Rattle.std.proofs.Common.{◌≡◌, ℕ, ◌%◌, ◌<◌, suc, zero, Bool, true, false, is_some, sym, map, List, [], ◌∷◌, ◌++◌, length, get_or, Option, Some, cond, ◌+◌, take, refl, ap, ◌∙◌, arith, length-append}
 use Rattle.std.specs.List.{AllByRecursion}
 use Rattle.std.proofs.lemmas.List.{append_assoc, map-append, take_more}
 use Rattle.std.proofs.lemmas.List.Elements.{filter-append}

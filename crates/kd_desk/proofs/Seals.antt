@@ -11,7 +11,7 @@ use Rattle.kd_commands.specs.State.{Desk}
 use Rattle.kd_commands.specs.Seals.{seal}
 use Rattle.kd_commands.specs.Plans.{Plan, quiet}
 use Rattle.kd_desk.specs.declared.change.Change.TheVariants as change
-use Rattle.kd_desk.specs.Drafts.{Fits, MaySeal, applied}
+use Rattle.kd_desk.specs.Drafts.{Fits, applied}
 
 -- by the number that is given, or the refusal
 abbrev given : Result ℕ Refusal → (ℕ → Plan) → Result Plan Refusal

@@ -1,5 +1,5 @@
 -- HELLO, as the code judges it and makes its notices.
-use Rattle.std.specs.Prelude.{◌≡◌, ℕ, Bool, true, false, not, ◌&&◌, ◌||◌, ◌==◌, List, [], ◌∷◌, length, nat_lt, Option, Some, None, is_err, is_none, unwrap_or, option_map}
+use Rattle.std.specs.Prelude.{◌≡◌, ℕ, Bool, false, not, ◌&&◌, ◌||◌, ◌==◌, List, [], ◌∷◌, length, nat_lt, Option, Some, None, is_err, is_none, unwrap_or, option_map}
 use Rattle.kd_types.specs.declared.creds.Kind.{Kind}
 use Rattle.kd_types.specs.declared.creds.Kind.TheVariants.{Ordinary, Activator, Holder, Monitor}
 use Rattle.kd_types.specs.declared.refusal.Refusal.{Refusal}

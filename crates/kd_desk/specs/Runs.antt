@@ -1,5 +1,5 @@
 -- What is run so far.
-use Rattle.std.specs.Prelude.{ℕ, Bool, true, false, not, ◌&&◌, ◌||◌, List, ◌==◌, Some, None, Result, Ok, Err, is_none, is_some}
+use Rattle.std.specs.Prelude.{ℕ, Bool, true, false, not, ◌&&◌, ◌||◌, List, Some, None, Result, Ok, Err, is_none, is_some}
 use Rattle.kd_types.specs.declared.refusal.Refusal.{Refusal}
 use Rattle.kd_types.specs.declared.refusal.Refusal.TheVariants.{Unsupported}
 use Rattle.kd_model.specs.Words.{all_of, first_that_holds}

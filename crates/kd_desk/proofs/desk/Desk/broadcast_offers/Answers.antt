@@ -1,5 +1,5 @@
 -- One connection more is looked at, and all of them in the end.
-use Rattle.std.proofs.Common.{◌≡◌, ◌<◌, ◌≤◌, ◌++◌, [], ℕ, List, Option, length, map, get_or, false, ap, sym, arith, ◌∙◌}
+use Rattle.std.proofs.Common.{◌≡◌, ◌<◌, ◌≤◌, ◌++◌, [], ℕ, List, Option, length, map, get_or, false, ap, arith, ◌∙◌}
 use Rattle.std.proofs.lemmas.List.{take_all}
 use Rattle.kd_model.specs.Words.{those}
 use Rattle.kd_image.specs.Images.{any}

@@ -1,4 +1,4 @@
-use Rattle.std.proofs.Common.{sym, ap, ◌∙◌}
+use Rattle.std.proofs.Common.{ap, ◌∙◌}
 use Rattle.std.specs.List.{list_any}
 use Rattle.kd_wire.specs.Commands.{items_of}
 use Rattle.kd_wire.specs.Refusals.{is_bad_access}

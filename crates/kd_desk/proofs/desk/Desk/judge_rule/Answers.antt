@@ -1,4 +1,4 @@
-use Rattle.std.proofs.Common.{ℕ, true, false, ap, sym, ◌∙◌, []}
+use Rattle.std.proofs.Common.{ℕ, ap, sym, ◌∙◌, []}
 use Rattle.kd_model.specs.Words.{some_of}
 use Rattle.kd_match.specs.Rules.{result_of, rule_refusal}
 use Rattle.kd_commands.specs.Items.{is_bad_mask}

@@ -5,7 +5,6 @@ use Rattle.kd_policy.specs.declared.owner.Owner.TheVariants as owner
 use Rattle.kd_policy.specs.Policy.{place_of}
 use Rattle.kd_commands.specs.State.{Desk}
 use Rattle.kd_commands.specs.declared.who.WhoKind.TheVariants as who
-use Rattle.kd_commands.specs.Items.{entries_in}
 use Rattle.kd_commands.specs.Endpoints.{endpoint_make}
 use Rattle.kd_desk.specs.declared.change.Change.TheVariants as change
 use Rattle.kd_desk.specs.Drafts.{Fits, applied}

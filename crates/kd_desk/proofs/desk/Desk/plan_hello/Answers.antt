@@ -1,5 +1,5 @@
 -- The parts are those of the plan that is asked for.
-use Rattle.std.proofs.Common.{◌≡◌, ◌<◌, ◌∙◌, ℕ, sym, ap, subst, length, List, None, Some, arith}
+use Rattle.std.proofs.Common.{◌≡◌, ◌<◌, ◌∙◌, sym, ap, subst, length, List, None, Some, arith}
 use Rattle.std.specs.Prelude.{◌%◌}
 use Rattle.std.specs.List.{AllByRecursion}
 use Rattle.kd_model.specs.Words.{first_that_holds}

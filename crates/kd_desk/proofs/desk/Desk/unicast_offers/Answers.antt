@@ -1,7 +1,6 @@
 -- One connection more is looked at.
-use Rattle.std.proofs.Common.{◌≡◌, ◌<◌, ◌++◌, ◌∷◌, [], ℕ, List, length, get_or, true, false, ap, sym, arith, ◌∙◌}
+use Rattle.std.proofs.Common.{◌≡◌, ◌<◌, ◌++◌, ◌∷◌, [], ℕ, List, length, get_or, true, false, ap, arith, ◌∙◌}
 use Rattle.kd_commands.specs.declared.conn.Conn.{Conn}
-use Rattle.kd_commands.specs.Plans.{Part}
 use Rattle.kd_commands.specs.State.{is_monitor}
 use Rattle.kd_desk.specs.Sending.{letter_offer, when_told}
 use Rattle.kd_desk.proofs.Offering.{walked}
