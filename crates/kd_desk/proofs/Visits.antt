@@ -36,8 +36,8 @@ visitable_of (part.Raise seat size ∷ ps) a = (a.0, visitable_of ps a.1)
 visitable_of (part.Close seat force ∷ ps) a = (a.0, visitable_of ps a.1)
 visitable_of (part.Offer seat user len from must ∷ ps) a = absurd a.0
 visitable_of (part.Post seat image ∷ ps) a = (a.0, visitable_of ps a.1)
-visitable_of (part.Drain seat size ∷ ps) a = (a.0, visitable_of ps a.1)
-visitable_of (part.Settle seat ∷ ps) a = (a.0, visitable_of ps a.1)
+visitable_of (part.Drain seat size ∷ ps) a = absurd a.0
+visitable_of (part.Settle seat ∷ ps) a = absurd a.0
 
 -- and none of them is an offer
 offerless : (ps : List code.Part) → AllByRecursion CanBeVisited (parts_with [] ps) → (n : ℕ) → false ≡ get_or (map is_offer ps) n false

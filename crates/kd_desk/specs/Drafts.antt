@@ -194,15 +194,14 @@ Fits d _ = Unit {0}
 abbrev pub IsLength : ℕ → Type 0
 IsLength n = (0 < n) × (n % 8 ≡ 0)
 
--- what a pool can take: its seat is one of 64, and lengths are whole words; so far nothing is
--- drained
+-- what a pool can take: its seat is one of 64, and sizes and lengths are whole words
 unfoldable pub IsVisitable : code.Part → Type 0
 IsVisitable (part.Raise seat size) = (seat < 64) × (size % 8 ≡ 0)
 IsVisitable (part.Close seat force) = seat < 64
 IsVisitable (part.Offer seat user len from must) = (seat < 64) × IsLength len
 IsVisitable (part.Post seat image) = (seat < 64) × IsLength (length image)
-IsVisitable (part.Drain seat size) = ⊥
-IsVisitable (part.Settle seat) = ⊥
+IsVisitable (part.Drain seat size) = (seat < 64) × (size % 8 ≡ 0)
+IsVisitable (part.Settle seat) = seat < 64
 
 -- offers, each with its content, that pools can take
 abbrev pub AreOffers : List (Option Content) → List code.Part → Type 0
