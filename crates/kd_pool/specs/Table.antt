@@ -10,6 +10,7 @@ use Rattle.kd_acts.specs.State.{Image, Slice, slot_numbered, is_reserved, is_wai
 use Rattle.kd_acts.specs.Sound.{slot_range}
 use Rattle.kd_acts.specs.Steps.{image_of, of_lower_number}
 use Rattle.kd_pool.specs.Sealed.{AreShared, Shares, share_at}
+use Rattle.kd_pool.specs.declared.memory.TheConstants.{LARGEST}
 use Rattle.kd_acts.specs.declared.slot.Phase.{Phase}
 use Rattle.kd_acts.specs.declared.slot.Slot.{Slot}
 
@@ -47,13 +48,13 @@ WaitsAsBefore phase n ss =
     IfSome (first (slot_numbered n) ss) (λ s.
     is_waiting (record s { phase = phase }) ≡ is_waiting s)
 
--- a sound book of just the slots in the table, a memory of the book's size, and room for all
--- numbers
+-- a sound book of just the slots in the table, a memory of the book's size, which isn't above the
+-- limit, and room for all numbers
 pub record AreKept (memory : List ℕ) (book : Book) (table : List Slot) (room : ℕ) : Type 0 where
   pub tied : book.slices ≡ map placed_of table
   pub sound : IsSound book
   pub whole : length memory ≡ book.size
-  pub fits : book.size < 2 ^ 32
+  pub fits : book.size ≤ LARGEST
   pub enough : SLICES ≤ room
 
 -- a queue of just the slots that wait, in order of arrival, each before the next arrival number

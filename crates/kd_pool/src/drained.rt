@@ -51,6 +51,15 @@ impl Drained {
         })
     }
 
+    /// Makes an empty buffer one for a pool of `size` bytes, which are no more than it has.
+    pub fn narrow(&mut self, size: u32)
+        requires empty { self.old.images ≡ [] }
+        requires room { size ≤ self.old.size }
+        ensures { self.new ≡ record { size = size; images = [] } }
+    {
+        self.memory.truncate(size as usize);
+    }
+
     /// The size of the pools that it is for.
     pub fn size(&self) -> usize
         ensures { result ≡ self.now.size }

@@ -37,4 +37,5 @@ mod table;
 pub use drained::Drained;
 pub use kd_acts::{Got, RecvMode};
 pub use kd_seal::Sealed;
+pub use memory::LARGEST;
 pub use pool::Pool;

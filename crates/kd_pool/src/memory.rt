@@ -5,6 +5,9 @@ ghost use Rattle.kd_acts.specs.Steps.{written};
 
 use std::alloc::{AllocError, Global};
 
+/// What a pool has at most: a mebibyte, as a HELLO may ask for.
+pub const LARGEST: u32 = 1_048_576;
+
 /// A memory of so many zeros.
 pub fn zeros(alloc: Global, size: u32) -> Result<Vec<u8>, AllocError>
     ensures { IfOk result (λ m. m.items ≡ replicate size 0) }

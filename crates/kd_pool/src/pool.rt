@@ -1,11 +1,12 @@
 //! The pool, and what it counts.
 
-ghost use Rattle.std.specs.Prelude.{◌≡◌, ◌%◌, IfOk};
+ghost use Rattle.std.specs.Prelude.{◌≡◌, ◌≤◌, ◌%◌, IfOk};
 ghost use Rattle.kd_model.specs.Slices.{used};
 ghost use Rattle.kd_model.specs.Words.{some_of};
 ghost use Rattle.kd_acts.specs.Sound.{IsSoundPool};
 ghost use Rattle.kd_acts.specs.State.{book_of, is_pending, slots};
 ghost use Rattle.kd_acts.specs.Steps.{new_pool, reserved_length};
+ghost use Rattle.kd_pool.specs.declared.memory.TheConstants.{LARGEST};
 
 use crate::{memory, sealed, table};
 use kd_acts::Slot;
@@ -61,6 +62,7 @@ impl Pool {
     /// 8.
     pub fn make(alloc: Global, size: u32) -> Result<Pool, AllocError>
         requires eights { size % 8 ≡ 0 }
+        requires most { size ≤ LARGEST }
         ensures { IfOk result (λ p. p ≡ new_pool size) }
     {
         Ok(Pool {
@@ -77,7 +79,8 @@ impl Pool {
 
     /// How many bytes it has.
     pub fn size(&self) -> u32
-        ensures { result ≡ self.now.size }
+        ensures size { result ≡ self.now.size }
+        ensures most { self.now.size ≤ LARGEST }
     {
         self.memory.len() as u32
     }
