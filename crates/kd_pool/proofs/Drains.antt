@@ -1,20 +1,17 @@
 -- What a drain takes, in the order of its arrival, and how it settles.
-use Rattle.std.specs.Prelude.{◌≡◌, ◌<◌, ◌≤◌, ◌+◌, ℕ, Bool, true, false, List, [], ◌∷◌, ◌++◌, cond, drop, length, map, Option, Some, None, refl, set}
-use Rattle.std.specs.List.{AllByRecursion, find}
-use Rattle.std.proofs.lemmas.List.{append-nil, append_assoc, drop-drop, drop-map, drop_all, length-map}
-use Rattle.std.proofs.Common.{ap, arith, get_or, subst, length-append, length-drop, suc, sym, zero, ◌∙◌}
-use Rattle.kd_model.proofs.Truth.{same_some}
+use Rattle.std.specs.Prelude.{◌≡◌, ◌<◌, ◌≤◌, ◌+◌, ℕ, Bool, true, false, List, [], ◌∷◌, cond, drop, length, map, Option, Some, None, refl, set}
+use Rattle.std.specs.List.{AllByRecursion}
+use Rattle.std.proofs.lemmas.List.{length-map}
+use Rattle.std.proofs.Common.{ap, arith, get_or, suc, sym, zero, ◌∙◌}
 use Rattle.kd_model.proofs.Lists.{map_of_filter, map_of_put, rest_at}
 use Rattle.kd_model.specs.Words.{in_order, least, put_in_order, those}
 use Rattle.kd_types.specs.declared.refusal.Refusal.TheVariants.{Busy}
-use Rattle.kd_acts.specs.State.{Answer, Pool, Slice, drained, entry_of, is_earlier, is_reserved, is_waiting, queue_of, refused, slot_numbered, slots, waiting_slots}
+use Rattle.kd_acts.specs.State.{Answer, Pool, Slice, drained, is_earlier, is_reserved, is_waiting, refused, slots, waiting_slots}
 use Rattle.kd_acts.specs.Steps.{arrived_earlier, drain_step, image_of, of_lower_number, settled, waiting_images, without_waiting}
 use Rattle.kd_pool.specs.Sealed.{Shares, share_at}
-use Rattle.kd_pool.specs.Table.{AreFound, carried, image_with, slice_shown}
+use Rattle.kd_pool.specs.Table.{carried, image_with, slice_shown}
 use Rattle.kd_pool.proofs.Sharing.{carried_behind}
 use Rattle.kd_acts.proofs.Apart.{AreApart}
-use Rattle.kd_acts.proofs.Arrivals.{all_of_waiting}
-use Rattle.kd_queue.specs.declared.entry.Entry.{Entry}
 use Rattle.kd_acts.specs.declared.slot.Slot.{Slot}
 
 -- what holds of each holds of those from a place on, and of the one there
@@ -47,61 +44,6 @@ few_arrive (s ∷ ss) = go (is_waiting s) (few_arrive ss)
     go : (b : Bool) → length (waiting_slots ss) ≤ length ss → length (in_order is_earlier (cond b (s ∷ those is_waiting ss) (those is_waiting ss))) ≤ length (s ∷ ss)
     go true h = omega (arith, h, length_put is_earlier s (waiting_slots ss))
     go false h = omega (arith, h)
-
--- the slots of the entries so far, and those that are left
-pub record Puts (ss rows : List Slot) (i : ℕ) : Type 0 where
-  pub all : rows ++ drop i (waiting_slots ss) ≡ waiting_slots ss
-
--- the entry at a place is that of the slot there
-entry_at : (ws : List Slot) (i : ℕ) (e : Entry) → i < length (map entry_of ws) → e ≡ get_or (map entry_of ws) i e → (s : Slot) × (drop i ws ≡ s ∷ drop (i + 1) ws) × (entry_of s ≡ e)
-entry_at ws i e h is = go (drop i ws) refl
-  where
-    whole : map entry_of (drop i ws) ≡ e ∷ drop (i + 1) (map entry_of ws)
-    whole = sym (drop-map entry_of i ws) ∙ rest_at (map entry_of ws) i e h is
-
-    go : (rest : List Slot) → drop i ws ≡ rest → (s : Slot) × (drop i ws ≡ s ∷ drop (i + 1) ws) × (entry_of s ≡ e)
-    go [] d = absurd (let clash : map entry_of [] ≡ e ∷ drop (i + 1) (map entry_of ws) = ap (map entry_of) (sym d) ∙ whole in cc)
-    go (s ∷ rest) d =
-        let same : entry_of s ∷ map entry_of rest ≡ e ∷ drop (i + 1) (map entry_of ws) = ap (map entry_of) (sym d) ∙ whole in
-        let behind : drop (i + 1) ws ≡ rest = ap (λ n. drop n ws) (omega arith) ∙ sym (drop-drop 1 i ws) ∙ ap (drop 1) d in
-        (s, d ∙ ap (s ∷◌) (sym behind), (let own : entry_of s ≡ e = cc in own))
-
--- it is found by its number
-found_at : (ss : List Slot) (i : ℕ) (s : Slot) → AreFound ss → drop i (waiting_slots ss) ≡ s ∷ drop (i + 1) (waiting_slots ss) → find (slot_numbered s.number) ss ≡ Some s
-found_at ss i s found d =
-    let P : Slot → Type 0 = λ s. find (slot_numbered s.number) ss ≡ Some s in
-    (rw d at (all_of_drop P i (waiting_slots ss) (all_of_waiting P ss found))).0
-
--- one more entry: the slot that is found by its number goes behind the others
-pub puts_on : (ss rows : List Slot) (es : List Entry) (i : ℕ) (e : Entry) (o : Option Slot) → AreFound ss → es ≡ queue_of ss → i < length es → e ≡ get_or es i e → Puts ss rows i → o ≡ find (slot_numbered e.number) ss
-    → (t : Slot) × (o ≡ Some t) × Puts ss (rows ++ t ∷ []) (i + 1)
-puts_on ss rows es i e o found q h is a f =
-    let here = entry_at (waiting_slots ss) i e (rw (← q) h) (rw (← q) is) in
-    let number : here.0.number ≡ e.number = ap (λ (x : Entry). x.number) here.2 in (
-      here.0,
-      f ∙ ap (λ n. find (slot_numbered n) ss) (sym number) ∙ found_at ss i here.0 found here.1,
-      record { all = append_assoc rows (here.0 ∷ []) (drop (i + 1) (waiting_slots ss)) ∙ ap (λ xs. rows ++ xs) (sym here.1) ∙ a.all },
-    )
-
-pub puts_found : (ss rows : List Slot) (es : List Entry) (i : ℕ) (e : Entry) (o : Option Slot) (t : Slot) → AreFound ss → es ≡ queue_of ss → i < length es → e ≡ get_or es i e → Puts ss rows i → o ≡ find (slot_numbered e.number) ss → o ≡ Some t
-    → Puts ss (rows ++ t ∷ []) (i + 1)
-puts_found ss rows es i e o t found q h is a f some =
-    let p = puts_on ss rows es i e o found q h is a f in
-    subst (λ x. Puts ss (rows ++ x ∷ []) (i + 1)) (same_some p.0 t (sym p.1 ∙ some)) p.2
-
--- there is room for one more
-pub has_room : (ss rows : List Slot) (es : List Entry) (i room : ℕ) → es ≡ queue_of ss → i < length es → length ss ≤ room → Puts ss rows i → length rows < room
-has_room ss rows es i room q h enough a =
-    let many = ap length a.all in
-    let same = ap length q in
-    omega (arith, few_arrive ss, length-append rows (drop i (waiting_slots ss)), length-drop i (waiting_slots ss), length-map (waiting_slots ss) entry_of, many, same)
-
--- behind the last entry nothing is left
-pub puts_all : (ss rows : List Slot) (es : List Entry) (i : ℕ) → es ≡ queue_of ss → length es ≤ i → Puts ss rows i → rows ≡ waiting_slots ss
-puts_all ss rows es i q h a =
-    let same = ap length q in
-    let none = drop_all i (waiting_slots ss) (omega (arith, length-map (waiting_slots ss) entry_of, same)) in
-    sym (append-nil rows) ∙ ap (λ xs. rows ++ xs) (sym none) ∙ a.all
 
 map_in_order : (m : List ℕ) (h : Shares) (ss : List Slot) → map (slice_shown m h) (in_order is_earlier ss) ≡ in_order arrived_earlier (map (slice_shown m h) ss)
 map_in_order m h [] = refl

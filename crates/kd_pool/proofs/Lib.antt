@@ -2,6 +2,7 @@ pub mod Drains
 pub mod Fills
 pub mod Kept
 pub mod Longs
+pub mod Moves
 pub mod Offers
 pub mod Picks
 pub mod Publishes

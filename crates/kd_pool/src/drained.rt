@@ -10,7 +10,7 @@ ghost use Rattle.kd_pool.specs.Table.{AreCarried, AreFound, HaveLowNumbers, Have
 use crate::{memory, sealed, table};
 use kd_acts::Slot;
 use kd_model::SLICES;
-use kd_queue::Entry;
+use kd_order::Queue;
 use kd_seal::Sealed;
 use std::alloc::{AllocError, Global};
 use std::marker::Model;
@@ -74,12 +74,12 @@ impl Drained {
         self.rows.is_empty()
     }
 
-    /// Takes the messages over that wait in a pool, and their shares.
+    /// Takes the messages over that wait in a pool, with their shares, out of its queue.
     pub(crate) fn take_over(
         &mut self,
         memory: &[u8],
         slots: &[Slot],
-        entries: &[Entry],
+        queue: &mut Queue,
         shares: &mut Vec<Option<Sealed>>,
     )
         requires size { length memory.now ≡ self.old.size }
@@ -89,14 +89,15 @@ impl Drained {
         requires found { AreFound slots.now }
         requires apart { HaveOwnNumbers slots.now }
         requires below { HaveLowNumbers slots.now }
-        requires queued { entries.now ≡ queue_of slots.now }
+        requires queued { queue.old ≡ queue_of slots.now }
         ensures images { self.new
             ≡ record self.old { images = images_waiting memory.now shares.old.items slots.now } }
         ensures few { length self.new.images ≤ SLICES }
+        ensures queue { queue.new ≡ [] }
         ensures shares { shares.new.items ≡ without_shares is_waiting slots.now shares.old.items }
     {
         self.memory.copy_from_slice(memory);
-        table::put_queued(&mut self.rows, slots, entries);
+        table::move_queued(&mut self.rows, slots, queue);
         sealed::move_waiting(shares, &mut self.shares, slots);
     }
 

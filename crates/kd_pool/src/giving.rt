@@ -8,11 +8,11 @@ ghost use Rattle.kd_pool.specs.Table.{with_slots, without_if};
 
 use crate::table;
 use kd_acts::Slot;
+use kd_links::Links;
 use kd_model::SliceBook;
-use kd_slices::Slices;
 
 /// Gives the slices of all freed slots back.
-pub fn give_back_freed(book: &mut Slices, slots: &[Slot])
+pub fn give_back_freed(book: &mut Links, slots: &[Slot])
     requires tied { book.old.slices ≡ map placed_of slots.now }
     requires sound { IsSound book.old }
     ensures freed { book.new ≡ with_slots (but_those is_freed slots.now) book.old }
@@ -23,7 +23,7 @@ pub fn give_back_freed(book: &mut Slices, slots: &[Slot])
     }
 }
 
-fn give_back_if_freed(book: &mut Slices, slot: &Slot)
+fn give_back_if_freed(book: &mut Links, slot: &Slot)
     requires placed { IsTrue (is_placed slot.now.number book.old) }
     requires sound { IsSound book.old }
     ensures freed { book.new ≡ without_if (is_freed slot.now) slot.now.number book.old }
@@ -35,7 +35,7 @@ fn give_back_if_freed(book: &mut Slices, slot: &Slot)
 }
 
 /// Gives the slices of all slots back that wait.
-pub fn give_back_waiting(book: &mut Slices, slots: &[Slot])
+pub fn give_back_waiting(book: &mut Links, slots: &[Slot])
     requires tied { book.old.slices ≡ map placed_of slots.now }
     requires sound { IsSound book.old }
     ensures gone { book.new ≡ with_slots (but_those is_waiting slots.now) book.old }
@@ -46,7 +46,7 @@ pub fn give_back_waiting(book: &mut Slices, slots: &[Slot])
     }
 }
 
-fn give_back_if_waiting(book: &mut Slices, slot: &Slot)
+fn give_back_if_waiting(book: &mut Links, slot: &Slot)
     requires placed { IsTrue (is_placed slot.now.number book.old) }
     requires sound { IsSound book.old }
     ensures gone { book.new ≡ without_if (is_waiting slot.now) slot.now.number book.old }
@@ -58,7 +58,7 @@ fn give_back_if_waiting(book: &mut Slices, slot: &Slot)
 }
 
 /// Gives the slices of all slots back.
-pub fn give_back_all(book: &mut Slices, slots: &[Slot])
+pub fn give_back_all(book: &mut Links, slots: &[Slot])
     requires tied { book.old.slices ≡ map placed_of slots.now }
     requires sound { IsSound book.old }
     ensures all { book.new ≡ with_slots [] book.old }

@@ -31,15 +31,9 @@ impl Pool {
             let slice = u64::from(slot.number.0);
             return Err(Refusal::Busy { slice });
         }
-        into.take_over(
-            &self.memory,
-            &self.slots,
-            self.queue.entries(),
-            &mut self.shares,
-        );
+        into.take_over(&self.memory, &self.slots, &mut self.queue, &mut self.shares);
         giving::give_back_waiting(&mut self.book, &self.slots);
         table::take_out_waiting(&mut self.slots);
-        self.queue.clear();
         Ok(())
     }
 

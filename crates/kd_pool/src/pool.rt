@@ -10,10 +10,10 @@ ghost use Rattle.kd_pool.specs.declared.memory.TheConstants.{LARGEST};
 
 use crate::{memory, sealed, table};
 use kd_acts::Slot;
+use kd_links::Links;
 use kd_model::{SLICES, SliceBook, SliceNo};
-use kd_queue::Queue;
+use kd_order::Queue;
 use kd_seal::Sealed;
-use kd_slices::Slices;
 use std::alloc::{AllocError, Global};
 use std::marker::Model;
 
@@ -23,7 +23,7 @@ use std::marker::Model;
 pub struct Pool {
     pub(crate) memory: Vec<u8>,
     /// Where the slices lie.
-    pub(crate) book: Slices,
+    pub(crate) book: Links,
     /// The slices by rising offset.
     pub(crate) slots: Vec<Slot>,
     /// Those of them that wait, in order of arrival.
@@ -67,7 +67,7 @@ impl Pool {
     {
         Ok(Pool {
             memory: memory::zeros(alloc, size)?,
-            book: Slices::make(alloc, size)?,
+            book: Links::make(alloc, size)?,
             slots: Vec::with_capacity(alloc, SLICES as usize)?,
             queue: Queue::make(alloc)?,
             shares: sealed::none(alloc)?,

@@ -4,12 +4,12 @@ ghost use Rattle.std.specs.Prelude.{if◌then◌else◌, [], ◌∷◌, ◌≡�
 ghost use Rattle.std.specs.List.{position};
 ghost use Rattle.kd_model.specs.Words.{but_those, first, lesser, put_in_order, some_of};
 ghost use Rattle.kd_acts.specs.State.{slot_numbered, is_freed, lies_lower, is_pending, is_pending_of, is_readable, is_waiting, queue_of, waiting_slots};
-ghost use Rattle.kd_pool.specs.Table.{AreFound, reserved_first};
+ghost use Rattle.kd_pool.specs.Table.{AreFound, HaveOwnNumbers, reserved_first};
 ghost use Rattle.kd_acts.specs.Steps.{free_refusal, in_phase, length_reserved, now_queued, of_lower_number, over_quota};
 
 use kd_acts::{Phase, Slot};
 use kd_model::SliceNo;
-use kd_queue::Entry;
+use kd_order::Queue;
 use kd_types::Refusal;
 
 /// Whether a user's messages, with one of `len` bytes more, would take more than half of the pool
@@ -156,20 +156,24 @@ pub fn take_out_waiting(slots: &mut Vec<Slot>)
     slots.retain(|slot| !is_waiting(slot));
 }
 
-/// Puts the slots of a queue's entries into an empty table, in their order.
-pub fn put_queued(rows: &mut Vec<Slot>, slots: &[Slot], entries: &[Entry])
+/// Puts the slots of all that waits in a queue into an empty table, in the queue's order, and takes
+/// them out of the queue.
+pub fn move_queued(rows: &mut Vec<Slot>, slots: &[Slot], queue: &mut Queue)
     requires empty { rows.old.items ≡ [] }
     requires room { length slots.now ≤ vec_capacity rows.old }
     requires found { AreFound slots.now }
-    requires queued { entries.now ≡ queue_of slots.now }
+    requires apart { HaveOwnNumbers slots.now }
+    requires queued { queue.old ≡ queue_of slots.now }
     ensures items { rows.new.items ≡ waiting_slots slots.now }
     ensures room { vec_capacity rows.old ≤ vec_capacity rows.new }
+    ensures queue { queue.new ≡ [] }
 {
-    'entries: for entry in entries {
-        let Some(slot) = find(slots, entry.number) else {
+    'waiting: while let Some(number) = queue.next(None) {
+        let Some(slot) = find(slots, number) else {
             unreachable!();
         };
         rows.push(slot).unwrap();
+        queue.take(number);
     }
 }
 

@@ -39,13 +39,13 @@ take_over-requires c =
       apart = rw c.deref-3.ensures.value (kept_apart m b ss room c.self.invariant.kept);
       below = rw c.deref-3.ensures.value (kept_below m b ss room c.self.invariant.kept);
       found = rw c.deref-3.ensures.value (each_found ss (kept_apart m b ss room c.self.invariant.kept));
-      queued = c.entries.ensures ∙ c.self.invariant.queued.order ∙ ap queue_of (sym c.deref-3.ensures.value);
+      queued = c.self.invariant.queued.order ∙ ap queue_of (sym c.deref-3.ensures.value);
     }
 
 pub invariant_of-self : goal.invariant_of-self
 invariant_of-self c =
     let left = rw c.deref-3.ensures.value at c.take_over.ensures.shares in
-    rw (c.take_out_waiting.ensures.items, c.clear.ensures, left) (record {
+    rw (c.take_out_waiting.ensures.items, c.take_over.ensures.queue, left) (record {
       kept = kept_these c.self.inside.memory.items c.self.inside.book _ c.self.inside.slots.items _ (vec_capacity c.self.inside.slots) _ c.self.invariant.kept (rw c.deref-4.ensures.value at c.give_back_waiting.ensures.gone) c.give_back_waiting.ensures.sound (omega (arith, c.take_out_waiting.ensures.room));
       queued = queued_drained c.self.inside.slots.items c.self.inside.queue c.self.inside.next_arrival c.self.invariant.queued;
       shared = shared_less is_waiting c.self.inside.slots.items c.self.inside.shares.items c.self.invariant.shared;
