@@ -1,5 +1,6 @@
-//! Which parts of a plan hand the messages of one pool over to another. All of it stands in
-//! `specs/`; the function's contract is a law.
+//! What holds of the parts of every plan: which of them hand the messages of one pool over to
+//! another, and how large the pools are that they open. All of it stands in `specs/`; each
+//! function's contract is a law.
 //!
 //! ```text
 //!   drain 4    what waits in the pool of seat 4 goes out
@@ -10,4 +11,4 @@
 
 mod laws;
 
-pub use laws::handovers_come_first;
+pub use laws::{handovers_come_first, pools_are_small};
