@@ -20,7 +20,6 @@ use Rattle.kd_wire.specs.Refusals.{command_flaw, flaw_of, has_bad_word, has_doub
 use Rattle.kd_wire.specs.WellFormed.{is_well_formed}
 use Rattle.kd_replies.specs.declared.request.Request.{Request}
 use Rattle.kd_replies.specs.Requests.{due, is_due}
-use Rattle.kd_acts.specs.State.{Visit}
 use Rattle.kd_commands.specs.declared.conn.Conn.{Conn}
 use Rattle.kd_commands.specs.declared.who.Who.{Who}
 use Rattle.kd_commands.specs.State.{Desk}

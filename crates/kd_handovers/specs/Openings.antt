@@ -1,5 +1,5 @@
 -- How large the pools are that a plan opens: a HELLO may ask for a mebibyte.
-use Rattle.std.specs.Prelude.{◌≡◌, ◌≤◌, ℕ, true, List, Ok}
+use Rattle.std.specs.Prelude.{◌≡◌, ◌≤◌, true, List, Ok}
 use Rattle.std.specs.List.{AllByRecursion}
 use Rattle.kd_wire.specs.declared.command.Command.{Command}
 use Rattle.kd_wire.specs.WellFormed.{is_well_formed}

@@ -1,5 +1,5 @@
 -- An act raises each count of a pool by at most one.
-use Rattle.std.specs.Prelude.{◌≡◌, ◌≤◌, ◌+◌, ◌&&◌, ◌==◌, ℕ, Bool, true, false, List, not, Option, Some, None, refl, pos, length}
+use Rattle.std.specs.Prelude.{◌≡◌, ◌≤◌, ◌+◌, ◌&&◌, ◌==◌, ℕ, Bool, true, false, List, [], ◌∷◌, not, Option, Some, None, refl, pos, length}
 use Rattle.std.proofs.Common.{ap, arith, ◌∙◌, replicate, zero, suc}
 use Rattle.std.specs.List.{AllByRecursion}
 use Rattle.kd_world.specs.State.{closed_pool}
@@ -10,12 +10,12 @@ use Rattle.kd_types.specs.declared.refusal.Refusal.TheVariants.{Busy, MessagesQu
 use Rattle.kd_acts.specs.declared.receive.RecvMode.{RecvMode}
 use Rattle.kd_acts.specs.declared.slot.Phase.TheVariants as phase
 use Rattle.kd_acts.specs.declared.slot.Slot.{Slot}
-use Rattle.kd_acts.specs.State.{Act, Answer, Content, Hold, Pool, Visit, book_of, by_desk, bytes_of, close, done, drain, drained, free, freed, gone, got, idle, is_reserved, is_waiting, offer, placed, post, publish, raise, read, receive, refused, settle, slice, slots}
-use Rattle.kd_acts.specs.Steps.{after_miss, after_taking, closed_answer, drop_counted, drain_step, fill_reserved, fill_step, filled, free_refusal, is_awaited, is_reserved_for, must_offer_step, next, of_lower_number, offer_step, open_step, over_quota, pool_step, post_step, receive_step, reserve_at, reserve_step, swept, visit_step, waiting_images, with_dropped, with_phase, pool_without, without_handed, without_waiting}
-use Rattle.kd_desk.specs.declared.part.Part as code
+use Rattle.kd_acts.specs.State.{Act, Answer, Content, Hold, Image, Pool, Visit, book_of, by_desk, bytes_of, close, done, drain, drained, free, freed, gone, got, idle, is_reserved, is_waiting, offer, placed, post, publish, raise, read, receive, refused, settle, slice, slots}
+use Rattle.kd_acts.specs.Steps.{after, after_miss, after_taking, closed_answer, drop_counted, drain_step, fill_reserved, fill_step, filled, free_refusal, is_awaited, is_reserved_for, must_offer_step, next, of_lower_number, offer_step, open_step, over_quota, pool_step, post_step, receive_step, reserve_at, reserve_step, settled, swept, visit_step, waiting_images, with_dropped, with_phase, pool_without, without_handed, without_waiting}
 use Rattle.kd_desk.specs.declared.part.Part.TheVariants as part
-use Rattle.kd_desk.specs.Drafts.{IsVisitable, part_with}
-use Rattle.kd_holds.specs.Counts.{CountsByOne, IsBelow, IsOpenBelow, IsPoolBelow, is_settle}
+use Rattle.kd_model.specs.declared.slice_no.TheConstants.{SLICES}
+use Rattle.kd_holds.specs.Counts.{CountsByOne, IsBelow, IsOpenBelow, IsPoolBelow, VisitsCount, is_settle}
+use Rattle.kd_holds.specs.Handing.{images_of}
 
 -- a pool whose counts are those of another one
 record HasCountsOf (p q : Pool) : Type 0 where
@@ -36,16 +36,6 @@ weaker_below m n h le b = record { generation = omega (arith, le, b.generation);
     go : (o : Option Pool) → IsOpenBelow m o → IsOpenBelow n o
     go None b = b
     go (Some p) b = record { arrivals = omega (arith, le, b.arrivals); misses = omega (arith, le, b.misses); offers = omega (arith, le, b.offers) }
-
--- a part that can be visited brings no drained messages
-pub visits_no_settle : (c : Option Content) (p : code.Part) → IsVisitable p → is_settle (by_desk (part_with c p).act) ≡ false
-unfolding IsVisitable
-visits_no_settle c (part.Raise seat size) v = refl
-visits_no_settle c (part.Close seat force) v = refl
-visits_no_settle c (part.Offer seat user len from must) v = refl
-visits_no_settle c (part.Post seat image) v = refl
-visits_no_settle c (part.Drain seat size) v = refl
-visits_no_settle c (part.Settle seat) v = absurd v
 
 kept_below : (n : ℕ) (p : Pool) → IsPoolBelow n p → IsPoolBelow (n + 1) p
 kept_below n p h = record { arrivals = omega (arith, h.arrivals); misses = omega (arith, h.misses); offers = omega (arith, h.offers) }
@@ -211,6 +201,49 @@ counts_by_one n h (receive mode) s b = either_below n h (receive mode) s b
 counts_by_one n h (read k sealed) s b = either_below n h (read k sealed) s b
 counts_by_one n h (free k) s b = either_below n h (free k) s b
 counts_by_one n h idle s b = either_below n h idle s b
+
+-- ---- visits
+
+more_room : (m n : ℕ) (p : Pool) → m ≤ n → IsPoolBelow m p → IsPoolBelow n p
+more_room m n p le b = record { arrivals = omega (arith, le, b.arrivals); misses = omega (arith, le, b.misses); offers = omega (arith, le, b.offers) }
+
+-- a message that settles
+one_below : (n : ℕ) (c : Content) (user : Option ℕ) (source : ℕ) (p : Pool) → IsPoolBelow n p → IsPoolBelow (n + 1) (fill_step c user source p).0
+unfolding fill_step
+one_below n c user source p h =
+    let x = reserve_step (length c.image) user source p in
+    fill_below n c x.0 x.1 (same_below n p x.0 (reserving (length c.image) source user p) h)
+
+-- each of them
+all_below : (is : List Image) (n : ℕ) (p : Pool) → IsPoolBelow n p → IsPoolBelow (n + length is) (settled is p)
+all_below [] n p h = more_room n (n + 0) p (omega arith) h
+all_below (i ∷ is) n p h =
+    let one : Pool = (fill_step i.content i.user i.source p).0 in
+    more_room (n + 1 + length is) (n + length (i ∷ is)) (settled is one) (omega arith) (all_below is (n + 1) one (one_below n i.content i.user i.source p h))
+
+settles_below : (n : ℕ) (h : Hold) (is : List Image) → length is ≤ SLICES → IsBelow n h → IsBelow (n + SLICES) (after h (by_desk (settle is)))
+unfolding pool_step open_step visit_step
+settles_below n h is few b = go h.pool b.pool
+  where
+    go : (o : Option Pool) → IsOpenBelow n o → IsBelow (n + SLICES) (elim o as (λ o. Hold × Answer) [ None ↦ (h, closed_answer (by_desk (settle is))) | Some p ↦ let s = open_step h.generation p (by_desk (settle is)) in (record { generation = h.generation; pool = Some s.0 }, s.1) ]).0
+    go None below = weaker_below n (n + SLICES) h (omega arith) b
+    go (Some p) below =
+        let start : IsPoolBelow n (swept p) = same_below n p (swept p) (record { arrivals = refl; misses = refl; offers = refl }) below in
+        record {
+          generation = omega (arith, b.generation);
+          pool = more_room (n + length is) (n + SLICES) (settled is (swept p)) (omega (arith, few)) (all_below is n (swept p) start);
+        }
+
+by_one : (n : ℕ) (h : Hold) (v : Visit) → is_settle (by_desk v) ≡ false → IsBelow n h → IsBelow (n + SLICES) (after h (by_desk v))
+by_one n h v e b = weaker_below (n + 1) (n + SLICES) (after h (by_desk v)) (omega arith) (counts_by_one n h (by_desk v) e b)
+
+pub visits_count : VisitsCount
+visits_count n h c (part.Raise seat size) took few b = by_one n h (raise size) refl b
+visits_count n h c (part.Close seat force) took few b = by_one n h (close force) refl b
+visits_count n h c (part.Offer seat user len from must) took few b = by_one n h _ refl b
+visits_count n h c (part.Post seat image) took few b = by_one n h (post image) refl b
+visits_count n h c (part.Drain seat size) took few b = by_one n h drain refl b
+visits_count n h c (part.Settle seat) took few b = settles_below n h (images_of took) few b
 
 -- closed pools that were never open
 pub closed_below : (k n : ℕ) → AllByRecursion (IsBelow n) (replicate k closed_pool)

@@ -1,6 +1,9 @@
 pub mod Counting
 pub mod Stacks
 pub mod Ahead
+pub mod Telling
+pub mod Stocks
+pub mod Orders
 pub mod Below
 pub mod Firsts
 pub mod Kept

@@ -1,5 +1,5 @@
 -- The pools that parts open, in the order of their making.
-use Rattle.std.specs.Prelude.{◌≡◌, ◌<◌, ◌++◌, ◌%◌, ℕ, List, [], ◌∷◌, drop, flat_map, get_or, length, reverse, refl, zero, suc}
+use Rattle.std.specs.Prelude.{◌≡◌, ◌<◌, ◌≤◌, ◌++◌, ◌%◌, ℕ, List, [], ◌∷◌, drop, flat_map, get_or, length, reverse, refl, zero, suc}
 use Rattle.std.specs.List.{AllByRecursion}
 use Rattle.std.proofs.Common.{ap, sym, ◌∙◌}
 use Rattle.std.proofs.lemmas.List.{append-nil, reverse-append}
@@ -8,6 +8,8 @@ use Rattle.kd_acts.specs.State.{Pool}
 use Rattle.kd_desk.specs.declared.part.Part.{Part}
 use Rattle.kd_desk.specs.declared.part.Part.TheVariants as part
 use Rattle.kd_desk.specs.Drafts.{IsVisitable}
+use Rattle.kd_pool.specs.declared.memory.TheConstants.{LARGEST}
+use Rattle.kd_holds.specs.Handing.{IsSmall}
 use Rattle.kd_holds.specs.Stack.{pool_in, stack_of}
 
 -- one pool, or none, is the same from the back
@@ -34,11 +36,15 @@ all_behind P zero ps a = a
 all_behind P (suc i) [] a = a
 all_behind P (suc i) (p ∷ ps) a = all_behind P i ps a.1
 
--- the part at a place can be visited
-pub visitable_at : (ps : List Part) (i : ℕ) (p : Part) → i < length ps → p ≡ get_or ps i p → AllByRecursion IsVisitable ps → IsVisitable p
-visitable_at ps i p h e a = (rw (rest_at ps i p h e) at (all_behind IsVisitable i ps a)).0
+-- and of the part at a place
+pub holds_at : (P : Part → Type 0) (ps : List Part) (i : ℕ) (p : Part) → i < length ps → p ≡ get_or ps i p → AllByRecursion P ps → P p
+holds_at P ps i p h e a = (rw (rest_at ps i p h e) at (all_behind P i ps a)).0
 
 -- so a pool is opened with whole words
 pub opens_words : (p : Part) (seat size : ℕ) → p ≡ part.Raise seat size → IsVisitable p → size % 8 ≡ 0
 unfolding IsVisitable
 opens_words p seat size e v = (rw e at v).1
+
+-- and no more than a pool may have
+pub opens_small : (p : Part) (seat size : ℕ) → p ≡ part.Raise seat size → IsSmall p → size ≤ LARGEST
+opens_small p seat size e v = rw e at v

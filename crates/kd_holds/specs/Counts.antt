@@ -1,7 +1,10 @@
 -- What a pool with its generation counts.
-use Rattle.std.specs.Prelude.{◌≤◌, ◌+◌, ◌≡◌, ℕ, Bool, true, false, Option, Some, None}
-use Rattle.kd_acts.specs.State.{Act, Hold, Pool, by_desk, settle}
+use Rattle.std.specs.Prelude.{◌≤◌, ◌+◌, ◌≡◌, ℕ, Bool, true, false, length, Option, Some, None}
+use Rattle.kd_model.specs.declared.slice_no.TheConstants.{SLICES}
+use Rattle.kd_acts.specs.State.{Act, Batch, Content, Hold, Pool, by_desk, settle}
 use Rattle.kd_acts.specs.Steps.{after}
+use Rattle.kd_desk.specs.declared.part.Part as code
+use Rattle.kd_holds.specs.Handing.{images_of, visit_met}
 
 -- the counts of an open pool are at most so many
 pub record IsPoolBelow (n : ℕ) (p : Pool) : Type 0 where
@@ -28,3 +31,10 @@ is_settle _ = false
 abbrev pub CountsByOne : Type 0
 CountsByOne =
     (n : ℕ) (h : Hold) (a : Act) → is_settle a ≡ false → IsBelow n h → IsBelow (n + 1) (after h a)
+
+-- a visit raises each by at most as many as there are slices, which no more messages have
+abbrev pub VisitsCount : Type 0
+VisitsCount =
+    (n : ℕ) (h : Hold) (c : Option Content) (p : code.Part) (drained : Option Batch)
+    → length (images_of drained) ≤ SLICES → IsBelow n h
+    → IsBelow (n + SLICES) (after h (by_desk (visit_met c p drained)))

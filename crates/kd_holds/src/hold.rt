@@ -5,7 +5,7 @@ ghost use Rattle.kd_acts.specs.State.{by_desk, bytes_of, free, publish, read, re
 ghost use Rattle.kd_acts.specs.Steps.{after, answer, is_awaited, new_pool};
 ghost use Rattle.kd_acts.specs.State as state;
 ghost use Rattle.kd_pool.specs.Told.{receive_answer};
-ghost use Rattle.kd_desk.specs.Drafts.{IsLength, IsVisitable, part_with};
+ghost use Rattle.kd_desk.specs.Drafts.{IsLength, IsVisitable};
 ghost use Rattle.kd_desk.specs.Outs.{out_answer};
 ghost use Rattle.kd_desk.specs.declared.part.Part as code;
 ghost use Rattle.kd_holds.specs.Counts.{IsBelow};
@@ -13,14 +13,14 @@ ghost use Rattle.kd_world.specs.Hands.{hand_received};
 ghost use Rattle.kd_world.specs.State.{closed_pool};
 ghost use Rattle.kd_world.specs.Agreed.{IsSoundHold, used_in};
 ghost use Rattle.kd_holds.specs.Publishing as publishing;
-ghost use Rattle.kd_holds.specs.Stack.{stack_of};
+ghost use Rattle.kd_holds.specs.Handing.{HasDrained, HasRoom, IsDrainedBy, IsMadeFor, answer_told, drain_told, visit_met};
 
 use crate::hand::Hand;
 use crate::made::Made;
 use crate::opened;
 use crate::pending::{Pending, Published};
 use kd_desk::{Out, Part};
-use kd_pool::{Got, Pool, RecvMode};
+use kd_pool::{Drained, Got, Pool, RecvMode};
 use kd_types::{ConnId, Refusal, SliceNo};
 use kd_world::Told;
 use std::alloc::Global;
@@ -70,18 +70,20 @@ impl Hold {
         }
     }
 
-    /// Does what a part of a plan asks for; so far nothing is drained.
+    /// Does what a part of a plan asks for: a settle places what was drained.
     #[tactic(auto, unfolding(kd_desk::specs::Drafts::IsVisitable))]
     pub fn visit(&mut self, part: &Part, made: &mut Made) -> Out
         requires visitable { IsVisitable part.now }
-        requires ready { (rest : List code.Part) × (made.old ≡ stack_of (part.now ∷ rest)) }
+        requires ready { (rest : List code.Part) × IsMadeFor made.old (part.now ∷ rest) }
         requires counts { IsBelow (2 ^ 63 - 1) self.old }
         ensures after { (content : Option state.Content)
-            → self.new ≡ after self.old (by_desk (part_with content part.now).act) }
+            → self.new ≡ after self.old (by_desk (visit_met content part.now made.new.drained)) }
         ensures answer { (content : Option state.Content)
-            → out_answer result ≡ answer self.old (by_desk (part_with content part.now).act) }
-        ensures made { (rest : List code.Part) → made.old ≡ stack_of (part.now ∷ rest)
-            → made.new ≡ stack_of rest }
+            → answer_told part.now result made.new.drained
+            ≡ answer self.old (by_desk (visit_met content part.now made.new.drained)) }
+        ensures drained { IsDrainedBy part.now result made.old.drained made.new.drained }
+        ensures made { (rest : List code.Part) → IsMadeFor made.old (part.now ∷ rest)
+            → IsMadeFor made.new rest }
     {
         match part {
             Part::Raise { .. } => self.raise(made.take()),
@@ -94,7 +96,8 @@ impl Hold {
                 ..
             } => self.offer(*user, *len, *from, *must),
             Part::Post { image, .. } => self.post(image.bytes()),
-            Part::Drain { .. } | Part::Settle { .. } => unreachable!(),
+            Part::Drain { .. } => self.drain(made),
+            Part::Settle { .. } => self.settle(made.take_drained()),
         }
     }
 
@@ -165,6 +168,34 @@ impl Hold {
         match &mut self.pool {
             None => Out::Done,
             Some(pool) => opened::post(pool, image),
+        }
+    }
+
+    /// Drains it.
+    #[tactic(auto, unfolding(kd_acts::specs::Steps::pool_step, kd_acts::specs::Steps::open_step, kd_acts::specs::Steps::visit_step, kd_acts::specs::Steps::closed_answer))]
+    fn drain(&mut self, made: &mut Made) -> Out
+        requires room { HasRoom made.old.buffer made.old.drained }
+        ensures after { self.new ≡ after self.old (by_desk state.drain) }
+        ensures answer { drain_told result made.new.drained
+            ≡ answer self.old (by_desk state.drain) }
+        ensures kept { HasDrained result made.old made.new }
+    {
+        match &mut self.pool {
+            None => Out::Done,
+            Some(pool) => made.drain(pool),
+        }
+    }
+
+    /// Places what was drained from another one.
+    #[tactic(auto, unfolding(kd_acts::specs::Steps::pool_step, kd_acts::specs::Steps::open_step, kd_acts::specs::Steps::visit_step, kd_acts::specs::Steps::closed_answer))]
+    fn settle(&mut self, from: Drained) -> Out
+        requires counts { IsBelow (2 ^ 63 - 1) self.old }
+        ensures after { self.new ≡ after self.old (by_desk (state.settle from.images)) }
+        ensures answer { out_answer result ≡ answer self.old (by_desk (state.settle from.images)) }
+    {
+        match &mut self.pool {
+            None => Out::Done,
+            Some(pool) => opened::settle(pool, from),
         }
     }
 

@@ -7,7 +7,7 @@ ghost use Rattle.kd_desk.specs.Drafts.{IsVisitable, seat_in};
 ghost use Rattle.kd_desk.specs.declared.part.Part as code;
 ghost use Rattle.kd_holds.specs.Ahead.{part_ahead};
 ghost use Rattle.kd_holds.specs.Counts.{IsBelow};
-ghost use Rattle.kd_holds.specs.Stack.{stack_of};
+ghost use Rattle.kd_holds.specs.Handing.{IsMadeFor};
 ghost use Rattle.kd_holds.specs.Visits.{HasVisited, IsReady, IsSameHolder, IsVisited};
 
 use crate::hold::Hold;
@@ -33,7 +33,7 @@ pub struct Holder {
     pub creds: Creds,
     /// What the command comes to.
     pub plan: Plan,
-    /// The pools that its visits open.
+    /// The memory that its visits use, and what they drained.
     pub made: Made,
     /// By the order of the parts.
     pub outs: Vec<Out>,
@@ -58,15 +58,15 @@ fn visit_part(
 ) -> Result<Out, AllocError>
     requires left { length outs.old.items < length plan.now.parts }
     requires parts { AllByRecursion IsVisitable plan.now.parts }
-    requires made { made.old ≡ stack_of (drop (length outs.old.items) plan.now.parts) }
+    requires made { IsMadeFor made.old (drop (length outs.old.items) plan.now.parts) }
     requires counts { AllByRecursion (IsBelow (2 ^ 63 - 1)) pools.old.items }
     ensures outs { IfOk result (λ out. outs.new.items ≡ outs.old.items ++ out ∷ []) }
     ensures made { OnOk result
-        (made.new ≡ stack_of (drop (length outs.old.items + 1) plan.now.parts)) }
+        (IsMadeFor made.new (drop (length outs.old.items + 1) plan.now.parts)) }
     ensures pools { IfOk result (λ out.
         (p : code.Part) (rest : List code.Part)
         → drop (length outs.old.items) plan.now.parts ≡ p ∷ rest
-        → IsVisited p pools.old.items pools.new.items out) }
+        → IsVisited p pools.old.items pools.new.items out made.old.drained made.new.drained) }
     ensures outs_same { OnErr result (outs.new.items ≡ outs.old.items) }
     ensures made_same { OnErr result (made.new ≡ made.old) }
     ensures pools_same { OnErr result (pools.new.items ≡ pools.old.items) }
@@ -108,7 +108,8 @@ impl Holder {
         ensures pools { IfOk result (λ out.
             (p : code.Part) (rest : List code.Part)
             → drop (length self.old.outs.items) self.old.plan.parts ≡ p ∷ rest
-            → IsVisited p pools.old.items pools.new.items out) }
+            → IsVisited p pools.old.items pools.new.items out self.old.made.drained
+            self.new.made.drained) }
         ensures same { OnErr result (IsSameHolder self.old self.new) }
         ensures pools_same { OnErr result (pools.new.items ≡ pools.old.items) }
     {

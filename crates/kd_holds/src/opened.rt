@@ -1,7 +1,8 @@
 //! What is done to an open pool.
 
 ghost use Rattle.std.specs.Prelude.{◌≡◌, ◌-◌, ◌^◌, length};
-ghost use Rattle.kd_acts.specs.Steps.{offer_step, post_step, without_handed};
+ghost use Rattle.kd_acts.specs.State.{done};
+ghost use Rattle.kd_acts.specs.Steps.{offer_step, post_step, settled, swept, without_handed};
 ghost use Rattle.kd_desk.specs.Drafts.{IsLength};
 ghost use Rattle.kd_desk.specs.Outs.{out_answer};
 ghost use Rattle.kd_holds.specs.Counts.{IsPoolBelow};
@@ -10,7 +11,7 @@ ghost use Rattle.kd_holds.specs.Publishing.{publish_step};
 
 use crate::pending::Published;
 use kd_desk::{Content, Out};
-use kd_pool::Pool;
+use kd_pool::{Drained, Pool};
 use kd_types::{ConnId, SliceNo};
 
 /// Reserves a slice for a message. Where it needn't be placed, a refusal is counted.
@@ -43,6 +44,16 @@ pub(crate) fn post(pool: &mut Pool, image: &[u8]) -> Out
         Ok(number) => Out::Slice(number),
         Err(why) => Out::Refused(why),
     }
+}
+
+/// Places drained messages and queues them, or counts them.
+pub(crate) fn settle(pool: &mut Pool, from: Drained) -> Out
+    requires counts { IsPoolBelow (2 ^ 63 - 1) pool.old }
+    ensures after { pool.new ≡ settled from.images (swept pool.old) }
+    ensures answer { out_answer result ≡ done }
+{
+    pool.settle(from);
+    Out::Done
 }
 
 /// Writes a message into the slice of a number, where that is reserved for just as many bytes, and

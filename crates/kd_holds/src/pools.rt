@@ -1,20 +1,19 @@
 //! What is done to the pool of one seat, among the pools of all. Beyond the last seat every pool is
 //! closed.
 
-ghost use Rattle.std.specs.Prelude.{◌≡◌, ◌≢◌, ◌-◌, ◌^◌, ◌∷◌, IfErr, IfOk, IsTrue, List, Option, get_or, set};
+ghost use Rattle.std.specs.Prelude.{◌≡◌, ◌≢◌, ◌-◌, ◌^◌, ◌∷◌, IfErr, IfOk, IsTrue, List, get_or, set};
 ghost use Rattle.std.specs.List.{AllByRecursion};
-ghost use Rattle.kd_acts.specs.State as state;
-ghost use Rattle.kd_acts.specs.State.{by_desk, bytes_of, free, publish, read, receive, refused};
+ghost use Rattle.kd_acts.specs.State.{bytes_of, free, publish, read, receive, refused};
 ghost use Rattle.kd_acts.specs.Steps.{after, answer};
 ghost use Rattle.kd_pool.specs.Told.{receive_answer};
-ghost use Rattle.kd_desk.specs.Drafts.{IsVisitable, part_with, seat_in};
-ghost use Rattle.kd_desk.specs.Outs.{out_answer};
+ghost use Rattle.kd_desk.specs.Drafts.{IsVisitable};
 ghost use Rattle.kd_desk.specs.declared.part.Part as code;
 ghost use Rattle.kd_holds.specs.Counts.{IsBelow};
 ghost use Rattle.kd_world.specs.Hands.{hand_received};
 ghost use Rattle.kd_world.specs.State.{closed_pool};
 ghost use Rattle.kd_holds.specs.Publishing as publishing;
-ghost use Rattle.kd_holds.specs.Stack.{stack_of};
+ghost use Rattle.kd_holds.specs.Handing.{IsMadeFor};
+ghost use Rattle.kd_holds.specs.Visits.{IsVisited};
 
 use crate::hand::Hand;
 use crate::hold::Hold;
@@ -25,22 +24,15 @@ use kd_pool::{Got, RecvMode};
 use kd_types::{Refusal, Seat};
 use std::alloc::Global;
 
-/// Does what a part of a plan asks for at the pool of its seat; so far nothing is drained.
+/// Does what a part of a plan asks for at the pool of its seat.
 pub fn visit(pools: &mut Vec<Hold>, part: &Part, made: &mut Made) -> Out
     requires visitable { IsVisitable part.now }
-    requires ready { (rest : List code.Part) × (made.old ≡ stack_of (part.now ∷ rest)) }
+    requires ready { (rest : List code.Part) × IsMadeFor made.old (part.now ∷ rest) }
     requires counts { AllByRecursion (IsBelow (2 ^ 63 - 1)) pools.old.items }
-    ensures after { (content : Option state.Content)
-        → pools.new.items
-        ≡ set pools.old.items (seat_in part.now) (after
-        (get_or pools.old.items (seat_in part.now) closed_pool)
-        (by_desk (part_with content part.now).act)) }
-    ensures answer { (content : Option state.Content)
-        → out_answer result
-        ≡ answer (get_or pools.old.items (seat_in part.now) closed_pool)
-        (by_desk (part_with content part.now).act) }
-    ensures made { (rest : List code.Part) → made.old ≡ stack_of (part.now ∷ rest)
-        → made.new ≡ stack_of rest }
+    ensures visited { IsVisited part.now pools.old.items pools.new.items result
+        made.old.drained made.new.drained }
+    ensures made { (rest : List code.Part) → IsMadeFor made.old (part.now ∷ rest)
+        → IsMadeFor made.new rest }
 {
     match pools.get_mut(part.seat().0 as usize) {
         Some(hold) => hold.visit(part, made),
