@@ -10,8 +10,6 @@ pub mod Marks
 pub mod NamePlans
 pub mod Listed
 pub mod Offering
-pub mod Said
-pub mod Sorted
 pub mod Planned
 pub mod Quiet
 pub mod Rules

@@ -1,11 +1,10 @@
 -- What a rule's items ask for.
-use Rattle.std.specs.Prelude.{◌≡◌, ◌≤◌, ◌<◌, ◌+◌, ◌*◌, ◌/◌, ◌==◌, ◌||◌, ◌&&◌, ◌++◌, not, ℕ, zero, suc, Bool, true, false, List, [], ◌∷◌, length, filter_map, take, drop, Option, Some, None, Result, Ok, Err, nat_le, nat_lt, refl}
+use Rattle.std.specs.Prelude.{◌≡◌, ◌≤◌, ◌<◌, ◌+◌, ◌*◌, ◌/◌, ◌==◌, ◌||◌, ◌&&◌, not, ℕ, zero, suc, Bool, true, false, List, [], ◌∷◌, length, filter_map, take, drop, Option, Some, None, Result, Ok, Err, nat_le, nat_lt, refl}
 use Rattle.std.proofs.Common.{ap, arith, sym, ◌∙◌}
 use Rattle.std.proofs.Math.Nat.{div-mul-le_self}
 use Rattle.std.proofs.lemmas.Bool.Decides.{nat_tests}
 use Rattle.std.proofs.lemmas.List.{length-take-le, length-drop}
 use Rattle.std.specs.List.{cons_option}
-use Rattle.std.proofs.lemmas.List.Elements.{filter_map-append}
 use Rattle.std.proofs.lemmas.List.Sums.{count_by-le-length, length-filter}
 use Rattle.kd_model.specs.Words.{some_of, first_that_holds}
 use Rattle.kd_types.specs.declared.refusal.Refusal.{Refusal}
@@ -27,7 +26,7 @@ use Rattle.kd_commands.specs.Plans.{Plan, quiet, unless_refused}
 use Rattle.kd_desk.specs.declared.change.Change.TheVariants as change
 use Rattle.kd_desk.specs.Drafts.{Fits, applied}
 use Rattle.kd_desk.proofs.Quiet.{by_answer, by_refusal, refused_by}
-use Rattle.kd_desk.specs.Asking.{misnamed}
+use Rattle.kd_said.specs.Said.{misnamed}
 
 -- the names of the items are those of the conditions
 pub names_asked : (size : ℕ) (is : List WireItem) → some_of misnames (conditions_in size is) ≡ some_of misnamed is
@@ -81,10 +80,6 @@ masks_fit size (item.IdRemove id ∷ is) = masks_fit size is
 masks_fit size (item.NameAdd old new n ∷ is) = masks_fit size is
 masks_fit size (item.NameRemove old new n ∷ is) = masks_fit size is
 masks_fit size (item.NameChange old new n ∷ is) = masks_fit size is
-
--- an item more
-pub conditions_more : (size : ℕ) (is : List WireItem) (i : WireItem) → conditions_in size (is ++ i ∷ []) ≡ conditions_in size is ++ cons_option (condition_of size i) []
-conditions_more size is i = filter_map-append (condition_of size) is (i ∷ [])
 
 -- there are no more conditions than items
 no_more : {X Y : Type 0} (f : X → Option Y) (xs : List X) → length (filter_map f xs) ≤ length xs

@@ -1,5 +1,5 @@
 -- HELLO, as the code judges it and makes its notices.
-use Rattle.std.specs.Prelude.{◌≡◌, ℕ, Bool, false, not, ◌&&◌, ◌||◌, ◌==◌, List, [], ◌∷◌, length, nat_lt, Option, Some, None, is_err, is_none, unwrap_or, option_map}
+use Rattle.std.specs.Prelude.{◌≡◌, ℕ, Bool, false, not, ◌&&◌, ◌||◌, ◌==◌, List, [], ◌∷◌, length, nat_lt, is_err, is_none, unwrap_or, option_map}
 use Rattle.kd_types.specs.declared.creds.Kind.{Kind}
 use Rattle.kd_types.specs.declared.creds.Kind.TheVariants.{Ordinary, Activator, Holder, Monitor}
 use Rattle.kd_types.specs.declared.refusal.Refusal.{Refusal}
@@ -10,7 +10,6 @@ use Rattle.kd_policy.specs.Policy.{is_ill_named}
 use Rattle.kd_registry.specs.declared.claim.Claim.{Claim}
 use Rattle.kd_registry.specs.Claims.{activator_answer, owner, owner_id}
 use Rattle.kd_wire.specs.declared.item.WireItem.{WireItem}
-use Rattle.kd_wire.specs.declared.item.WireItem.TheVariants as item
 use Rattle.kd_commands.specs.declared.conn.Conn.{Conn}
 use Rattle.kd_commands.specs.Hello.{Asked, free_seat}
 use Rattle.kd_commands.specs.Items.{activator_name, entries_in}
@@ -31,12 +30,6 @@ asked w = record {
   receive_mask = w.receive_mask;
   items = w.items;
 }
-
--- the first name
-abbrev pub name_among : List WireItem → Option (List ℕ)
-name_among [] = None
-name_among (item.Name n ∷ is) = Some n
-name_among (_ ∷ is) = name_among is
 
 -- an activator brings its name, a holder its entries
 abbrev pub IsBrought : Kind → List WireItem → Brought → Type 0

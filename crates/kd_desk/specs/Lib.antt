@@ -18,8 +18,6 @@ pub mod News
 pub mod Owners
 -- steps: endpoints
 pub mod Keeping
--- steps: what a rule asks for
-pub mod Asking
 -- steps: the lines of a listing
 pub mod Listing
 -- steps: messages

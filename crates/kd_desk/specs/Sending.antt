@@ -1,6 +1,5 @@
 -- Messages, as the code plans them.
 use Rattle.std.specs.Prelude.{◌≡◌, ◌≢◌, ◌<◌, ℕ, Bool, not, ◌&&◌, List, [], ◌∷◌, length, nat_le, nat_lt, is_some, is_none, option_and_then, Option, Some, None, Result, Ok, Err, false, true}
-use Rattle.std.specs.Borrow.{Bor}
 use Rattle.kd_types.specs.declared.refusal.Refusal.{Refusal}
 use Rattle.kd_types.specs.declared.refusal.Refusal.TheVariants.{BadCookie, BroadcastMisuse, BloomSize, TooLong, NoSuchSeal, NotPermitted, TooMany, OutOfMemory}
 use Rattle.kd_types.specs.Flags.{has_bits}
@@ -12,20 +11,15 @@ use Rattle.kd_image.specs.declared.message.Message.{Message}
 use Rattle.kd_image.specs.Images.{image}
 use Rattle.kd_acts.specs.State.{offer}
 use Rattle.kd_commands.specs.declared.conn.Conn.{Conn}
-use Rattle.kd_desk.specs.declared.sharing.Named as code
 use Rattle.kd_desk.specs.declared.change.Change.{Change}
 use Rattle.kd_desk.specs.declared.change.Change.TheVariants as change
 use Rattle.kd_commands.specs.declared.sent.Sent.{Sent}
-use Rattle.kd_commands.specs.Items.{Filter, Named, destination_name, sealed_among}
+use Rattle.kd_commands.specs.Items.{Named, destination_name, sealed_among}
 use Rattle.kd_commands.specs.State.{Desk, is_activator}
 use Rattle.kd_commands.specs.Rights.{may_see_name, may_talk}
 use Rattle.kd_commands.specs.Plans.{Part}
 use Rattle.kd_commands.specs.Send.{asker_of, fits_filters, has_bad_cookie, is_misuse, refusals_by, refusals_of_unicast, some_passes}
 use Rattle.kd_commands.specs.Messages.{attached, expects, is_attached, is_broadcast, plain_length}
-
--- a filter as the code finds it
-abbrev pub filter_of : ℕ × Bor (List ℕ) → Filter
-filter_of f = record { generation = f.0; bits = f.1.now }
 
 -- the names of a sender that lets the bus attach them
 abbrev pub TellsNames : Desk → Conn → List (List ℕ) → Type 0
@@ -38,10 +32,6 @@ names_attached d s r =
       | true ↦ those (may_see_name d r) (names_of d.registry s.id)
       | false ↦ []
     ]
-
--- a seal that is named, as the code finds it
-abbrev pub named_of : code.Named → Named
-named_of n = record { number = n.number; range = n.range }
 
 -- the bytes of the range that is named
 abbrev pub share_of : Desk → Conn → Option Named → Option (List ℕ)

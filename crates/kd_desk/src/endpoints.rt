@@ -1,49 +1,26 @@
 //! Endpoints: a caller makes one and keeps it.
 
-ghost use Rattle.std.specs.Prelude.{◌≡◌, ◌||◌, not, false, IfOk, option_map};
+ghost use Rattle.std.specs.Prelude.{◌≡◌, ◌||◌, not, false};
 ghost use Rattle.std.specs.List.{list_any};
 ghost use Rattle.kd_model.specs.Words.{some_of};
 ghost use Rattle.kd_name.specs.Names.{is_label};
 ghost use Rattle.kd_policy.specs.Policy.{has_star, is_ill_named};
 ghost use Rattle.kd_wire.specs.Refusals.{is_bad_access};
-ghost use Rattle.kd_commands.specs.Items.{endpoint_in};
-ghost use Rattle.kd_commands.specs.Endpoints.{endpoint_make, label_in};
+ghost use Rattle.kd_commands.specs.Endpoints.{endpoint_make};
 ghost use Rattle.kd_desk.specs.Drafts.{PlanResult};
 ghost use Rattle.kd_desk.specs.Keeping.{endpoint_judged};
 
 use crate::change::Change;
 use crate::desk::Desk;
-use crate::granting::{entries_in, has_ill_named, has_wildcard};
 use crate::plan::Plan;
 use crate::planning::quiet;
 use kd_commands::WhoKind;
 use kd_name::is_label;
 use kd_policy::{ENTRIES, Entry, Owner};
+use kd_said::{entries_in, has_ill_named, has_wildcard, label_in};
 use kd_types::{Creds, Refusal, Text};
 use kd_wire::{Reply, WireItem};
 use std::alloc::Global;
-
-/// The label of an endpoint, if one is given.
-pub(crate) fn endpoint_in(items: &[WireItem]) -> Option<&Text>
-    ensures { option_map (λ n. n.now) result ≡ endpoint_in items.now }
-{
-    'items: for item in items {
-        if let WireItem::Endpoint(label) = item {
-            return Some(label);
-        }
-    }
-    None
-}
-
-/// The label that a new endpoint has to have; without bytes where none is given.
-fn label_in(items: &[WireItem]) -> &[u8]
-    ensures { result.now ≡ label_in items.now }
-{
-    match endpoint_in(items) {
-        Some(label) => label.bytes(),
-        None => &[],
-    }
-}
 
 /// Whether the label is none, or the pattern of one of the entries.
 fn is_ill_said(label: &[u8], entries: &[Entry]) -> bool

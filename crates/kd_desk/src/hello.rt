@@ -1,21 +1,19 @@
 //! HELLO: what it comes to when a caller becomes a connection.
 
-ghost use Rattle.std.specs.Prelude.{◌≡◌, ◌<◌, ◌^◌, ◌%◌, ◌++◌, [], ◌∷◌, Some, false, unwrap_or, option_map, IfOk, OnOk, IsTrue};
+ghost use Rattle.std.specs.Prelude.{◌≡◌, ◌<◌, ◌^◌, ◌%◌, ◌++◌, [], ◌∷◌, Some, false, unwrap_or, IfOk, OnOk, IsTrue};
 ghost use Rattle.std.specs.List.{list_any};
 ghost use Rattle.kd_model.specs.Words.{first_that_holds};
 ghost use Rattle.kd_match.specs.Rules.{result_of};
 ghost use Rattle.kd_wire.specs.Refusals.{is_bad_access};
 ghost use Rattle.kd_acts.specs.State.{raise};
-ghost use Rattle.kd_commands.specs.Items.{activator_name, description_in, endpoint_in};
+ghost use Rattle.kd_commands.specs.Items.{endpoint_in};
 ghost use Rattle.kd_commands.specs.Hello.{arrival, endpoint_of, free_seat, hello, is_free, kind_asked, newcomer};
 ghost use Rattle.kd_commands.specs.Plans.{notices};
-ghost use Rattle.kd_desk.specs.Arriving.{IsBrought, are_many, asked, name_among, is_ill_brought, is_ruled_out, is_taken, owned_first, owner_with, refusals_of_newcomer};
+ghost use Rattle.kd_desk.specs.Arriving.{IsBrought, are_many, asked, is_ill_brought, is_ruled_out, is_taken, owned_first, owner_with, refusals_of_newcomer};
 ghost use Rattle.kd_desk.specs.Drafts.{HasRoomFor, PlanResult, parts_with};
 
 use crate::change::{Brought, Change};
 use crate::desk::{Desk, SEATS};
-use crate::endpoints::endpoint_in;
-use crate::granting::{entries_in, has_ill_named};
 use crate::notices::News;
 use crate::offers::is_monitor;
 use crate::part::Part;
@@ -24,6 +22,7 @@ use crate::planning::itself;
 use kd_commands::Conn;
 use kd_name::is_name;
 use kd_policy::{ENTRIES, Entry, Owner};
+use kd_said::{activator_name, description_of, endpoint_in, entries_in, has_ill_named};
 use kd_types::{ConnId, Creds, HelloFlags, Kind, OwnerChange, Refusal, Seat, Text};
 use kd_wire::{Reply, WireItem, WireItems};
 use std::alloc::{AllocError, Global};
@@ -55,51 +54,6 @@ fn kind_asked(flags: HelloFlags) -> Kind
         Kind::Monitor
     } else {
         Kind::Ordinary
-    }
-}
-
-/// The first name, if one is given.
-fn name_among(items: &[WireItem]) -> Option<&Text>
-    ensures { option_map (λ n. n.now) result ≡ name_among items.now }
-{
-    'items: for item in items {
-        if let WireItem::Name(name) = item {
-            return Some(name);
-        }
-    }
-    None
-}
-
-/// The name that an activator stands for; without bytes where none is given.
-#[tactic(auto, using(crate::proofs::Said::name_of_activator))]
-fn activator_name(alloc: Global, items: &[WireItem]) -> Result<Text, AllocError>
-    ensures { IfOk result (λ name. name ≡ activator_name items.now) }
-{
-    match name_among(items) {
-        Some(name) => Text::of(alloc, name.bytes()),
-        None => Text::of(alloc, &[]),
-    }
-}
-
-/// What a connection calls itself, if it does.
-fn description_in(items: &[WireItem]) -> Option<&Text>
-    ensures { option_map (λ n. n.now) result ≡ description_in items.now }
-{
-    'items: for item in items {
-        if let WireItem::Description(text) = item {
-            return Some(text);
-        }
-    }
-    None
-}
-
-/// The same, copied.
-fn description_of(alloc: Global, items: &[WireItem]) -> Result<Option<Text>, AllocError>
-    ensures { IfOk result (λ text. text ≡ description_in items.now) }
-{
-    match description_in(items) {
-        Some(text) => Ok(Some(Text::of(alloc, text.bytes())?)),
-        None => Ok(None),
     }
 }
 

@@ -15,7 +15,7 @@
 //! `Unsupported`. A planner is a file of its own: `hello`, `endpoints`, `granting`, `sending`,
 //! `leaving`, `naming`, `listing`, `matching`, `sealing`, `ticking`; `finishing` makes the change of a
 //! plan. A message is judged by `sending`, `sharing` and `routing`, and its offers are made by
-//! `offers` and `broadcasting`.
+//! `offers` and `broadcasting`. What items say is read by `kd_said`.
 #![tactic(auto)]
 
 mod attaching;

@@ -3,7 +3,7 @@
 ghost use Rattle.std.specs.Prelude.{◌≡◌, ◌<◌, ◌^◌, ◌++◌, [], ◌∷◌, OnOk, OnErr, IfOk, IfErr, Some, None, map, true, false};
 ghost use Rattle.std.specs.List.{AllByRecursion};
 ghost use Rattle.kd_wire.specs.declared.reply.Reply.TheVariants as reply;
-ghost use Rattle.kd_image.specs.Images.{front, image_length, laid, padded};
+ghost use Rattle.kd_image.specs.Images.{front, image_length, laid};
 ghost use Rattle.kd_desk.specs.Drafts.{IsVisitable, StandByOffers, is_offer, parts_with, part_with};
 ghost use Rattle.kd_desk.specs.Sending.{TellsNames, letter_offer, when_told};
 ghost use Rattle.kd_commands.specs.State.{is_monitor, monitors};
@@ -17,7 +17,7 @@ use crate::sharing::Parcel;
 use bytes::Bytes;
 use kd_commands::{Conn, WhoKind};
 use kd_image::{Attached, Message, build, image_len, is_short};
-use kd_item::{padding, put_bytes, put_zeros};
+use kd_said::lay;
 use kd_seal::Sealed;
 use kd_types::{Blob, Kind, Refusal, Text};
 use kd_wire::Reply;
@@ -100,28 +100,6 @@ pub(crate) fn is_monitor(conn: &Conn) -> bool
     ensures { result ≡ is_monitor conn.now.kind }
 {
     matches!(conn.kind, Kind::Monitor)
-}
-
-/// Appends a payload, with zeros up to the next multiple of 8.
-fn put_padded(out: &mut Vec<u8>, payload: &[u8]) -> Result<(), AllocError>
-    ensures { OnOk result (out.new.items ≡ out.old.items ++ padded payload.now) }
-{
-    let zeros = padding(payload.len());
-    out.reserve(payload.len() + zeros)?;
-    put_bytes(out, payload);
-    put_zeros(out, zeros);
-    Ok(())
-}
-
-/// The payloads one after the other, each with its padding.
-fn lay(alloc: Global, payloads: &[Blob]) -> Result<Vec<u8>, AllocError>
-    ensures { IfOk result (λ v. v.items ≡ laid payloads.now) }
-{
-    let mut out = Vec::new(alloc);
-    'payloads: for payload in payloads {
-        put_padded(&mut out, payload.bytes())?;
-    }
-    Ok(out)
 }
 
 /// One share more of the sealed bytes that a message takes along, if it takes any.

@@ -7,10 +7,10 @@ ghost use Rattle.kd_desk.specs.Sending.{Judges, MayAsk, change_of, reaches_activ
 
 use crate::change::Change;
 use crate::desk::Desk;
-use crate::sending::destination;
 use kd_commands::{Conn, Sent};
 use kd_name::is_name;
 use kd_replies::Request;
+use kd_said::destination;
 use kd_types::{ConnId, Cookie, Kind, Moment, Refusal, Text};
 use std::alloc::Global;
 

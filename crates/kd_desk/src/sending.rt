@@ -1,121 +1,25 @@
 //! Planning a message: to one receiver, or to all that may and want to have it.
 
-ghost use Rattle.std.specs.Prelude.{◌≡◌, false, true, IfOk, nat_lt, option_map};
-ghost use Rattle.kd_image.specs.Images.{image_length};
-ghost use Rattle.kd_image.specs.Said.{nothing_attached};
+ghost use Rattle.std.specs.Prelude.{◌≡◌, false, true, IfOk};
 ghost use Rattle.kd_replies.specs.Requests.{request_waits};
 ghost use Rattle.kd_model.specs.Words.{some_of};
 ghost use Rattle.kd_desk.specs.Drafts.{PlanResult};
-ghost use Rattle.kd_commands.specs.Items.{destination_name, filter_among, payloads, sealed_among};
 ghost use Rattle.kd_commands.specs.Send.{fits_filters, has_bad_cookie, is_misuse, send};
 ghost use Rattle.kd_commands.specs.Messages.{is_broadcast, message_of, share_in};
-ghost use Rattle.kd_desk.specs.Sending.{Judges, filter_of, refusals_of_bytes, refusals_of_form};
+ghost use Rattle.kd_desk.specs.Sending.{Judges, refusals_of_bytes, refusals_of_form};
 
 use crate::change::Change;
 use crate::desk::Desk;
 use crate::plan::Plan;
-use crate::sharing::{Parcel, named_seal, range_in};
+use crate::sharing::Parcel;
 use kd_bloom::Bits;
 use kd_commands::{Conn, Sent, WhoKind};
-use kd_image::{Attached, Message, SealedRange, image_len, is_short};
-use kd_types::{Blob, BlobList, Cookie, Refusal, Text, TextList};
-use kd_wire::WireItem;
-use std::alloc::{AllocError, Global};
+use kd_said::{destination, filter, is_too_long, message_of, named_seal, range_in};
+use kd_types::{Cookie, Refusal};
+use std::alloc::Global;
 
 /// The destination of a broadcast.
 pub(crate) const ANY: u64 = u64::MAX;
-
-/// The most bytes of a message's image, metadata aside.
-const LONGEST: u64 = 65_536;
-
-/// The name that a message is sent to, if one is given.
-pub(crate) fn destination(items: &[WireItem]) -> Option<&Text>
-    ensures { option_map (λ n. n.now) result ≡ destination_name items.now }
-{
-    'items: for item in items {
-        if let WireItem::DstName(name) = item {
-            return Some(name);
-        }
-    }
-    None
-}
-
-/// The filter of a broadcast, if one is given: its generation and its bits.
-fn filter(items: &[WireItem]) -> Option<(u64, &Blob)>
-    ensures { option_map filter_of result ≡ filter_among items.now }
-{
-    'items: for item in items {
-        if let WireItem::Filter { generation, bits } = item {
-            return Some((*generation, bits));
-        }
-    }
-    None
-}
-
-/// The name that a message is sent to, if one is given, and its payloads in order. They are moved
-/// and not copied.
-fn sort(alloc: Global, items: Vec<WireItem>) -> Result<(Option<Text>, Vec<Blob>), AllocError>
-    ensures name { IfOk result (λ found. found.0 ≡ destination_name items.items) }
-    ensures payloads { IfOk result (λ found. found.1.items ≡ payloads items.items) }
-{
-    let mut destination = None;
-    let mut pieces = Vec::new(alloc);
-    'items: for item in items {
-        match item {
-            WireItem::Payload(bytes) => pieces.push(bytes)?,
-            WireItem::DstName(name) => {
-                if destination.is_none() {
-                    destination = Some(name);
-                }
-            }
-            other => drop(other),
-        }
-    }
-    Ok((destination, pieces))
-}
-
-/// The message of what was handed in, in which this range of a seal is named.
-fn message_of(alloc: Global, sent: Sent, sealed: Option<SealedRange>) -> Result<Message, AllocError>
-    requires { sealed ≡ option_map (λ n. n.range) (sealed_among sent.items) }
-    ensures { IfOk result (λ g. g ≡ message_of sent) }
-{
-    let Sent {
-        flags,
-        priority,
-        payload_type,
-        cookie,
-        last,
-        items,
-        ..
-    } = sent;
-    let (dst_name, payloads) = sort(alloc, items.into_vec())?;
-    Ok(Message {
-        flags,
-        priority,
-        payload_type,
-        cookie: Cookie(cookie),
-        last,
-        dst_name,
-        payloads: BlobList::of(payloads),
-        sealed,
-    })
-}
-
-/// Whether the message has more bytes than may be sent, metadata aside.
-fn is_too_long(alloc: Global, message: &Message) -> bool
-    ensures { result ≡ nat_lt 65536 (image_length message.now nothing_attached) }
-{
-    let nothing = Attached {
-        creds: None,
-        names: TextList::of(Vec::new(alloc)),
-        description: None,
-        moment: None,
-    };
-    if !is_short(message, &nothing) {
-        return true;
-    }
-    LONGEST < image_len(message, &nothing)
-}
 
 /// Whether a broadcast wants a reply or names a receiver, or a message to one receiver is a signal.
 fn is_misuse(sent: &Sent) -> bool

@@ -1,73 +1,15 @@
 //! The sealed bytes that a message takes along.
 
-ghost use Rattle.std.specs.Prelude.{◌≡◌, ◌+◌, [], ◌∷◌, length, option_map, IfOk};
-ghost use Rattle.kd_commands.specs.Items.{payloads, sealed_among};
-ghost use Rattle.kd_desk.specs.Sending.{Judges, named_of, refusals_of_share, share_of};
+ghost use Rattle.std.specs.Prelude.{◌≡◌, option_map, IfOk};
+ghost use Rattle.kd_desk.specs.Sending.{Judges, refusals_of_share, share_of};
+ghost use Rattle.kd_said.specs.Said.{named_of};
 
 use crate::desk::Desk;
 use kd_commands::Conn;
-use kd_image::{Message, SealedRange};
+use kd_image::Message;
+use kd_said::Named;
 use kd_seal::Sealed;
 use kd_types::Refusal;
-use kd_wire::WireItem;
-use std::alloc::AllocError;
-
-/// A seal that a message names, and the range of it that is meant.
-#[derive(Clone, Copy, Debug)]
-pub(crate) struct Named {
-    number: u64,
-    range: SealedRange,
-}
-
-/// How many payloads stand before what follows the item. No frame has more than a `u32` counts.
-fn behind(place: u32, item: &WireItem) -> Result<u32, AllocError>
-    ensures { IfOk result (λ n. n ≡ place + length (payloads (item.now ∷ []))) }
-{
-    match item {
-        WireItem::Payload(_) => match place.checked_add(1) {
-            Some(next) => Ok(next),
-            None => Err(AllocError),
-        },
-        _ => Ok(place),
-    }
-}
-
-/// The seal that a message names, if it names one.
-pub(crate) fn named_seal(items: &[WireItem]) -> Result<Option<Named>, AllocError>
-    ensures { IfOk result (λ n. option_map named_of n ≡ sealed_among items.now) }
-{
-    let mut place = 0;
-    'items: for item in items {
-        if let WireItem::Sealed {
-            number,
-            start,
-            length,
-        } = item
-        {
-            let range = SealedRange {
-                place,
-                start: *start,
-                length: *length,
-            };
-            return Ok(Some(Named {
-                number: *number,
-                range,
-            }));
-        }
-        place = behind(place, item)?;
-    }
-    Ok(None)
-}
-
-/// The range of the seal that is named, if one is.
-pub(crate) fn range_in(named: Option<Named>) -> Option<SealedRange>
-    ensures { result ≡ option_map (λ n. n.range) (option_map named_of named) }
-{
-    match named {
-        Some(named) => Some(named.range),
-        None => None,
-    }
-}
 
 /// A message, and the sealed bytes that it takes along.
 #[derive(Drop)]

@@ -1,6 +1,0 @@
-use Rattle.std.proofs.Common.{◌≡◌, None, length, take}
-use Rattle.kd_commands.specs.Items.{payloads, sealed_among}
-use Rattle.kd_desk.proofs.sharing.named_seal.Given as goal
-
-abbrev pub invariant-items : goal.invariant-items
-invariant-items l = (sealed_among (take l.item-index l.items) ≡ None) × (l.place ≡ length (payloads (take l.item-index l.items)))
