@@ -1,9 +1,10 @@
 -- What callers do by themselves, told by their own seat and hand and all pools, is what the
 -- definitions of a world say.
-use Rattle.std.proofs.Common.{◌≡◌, ◌<◌, ◌+◌, ◌-◌, ◌^◌, ℕ, Bool, false, List, Option, Some, None, get_or, set, length, refl, ap, sym, subst, arith, ◌∙◌}
+use Rattle.std.proofs.Common.{◌≡◌, ◌<◌, ◌+◌, ◌*◌, ◌-◌, ◌^◌, ℕ, Bool, false, List, Option, Some, None, get_or, set, length, refl, ap, sym, subst, arith, ◌∙◌}
 use Rattle.std.specs.List.{AllByRecursion}
 use Rattle.std.proofs.lemmas.List.{length-set, set-get_or}
 use Rattle.kd_model.specs.Words.{first}
+use Rattle.kd_model.specs.declared.slice_no.TheConstants.{SLICES}
 use Rattle.kd_acts.specs.declared.receive.RecvMode.{RecvMode}
 use Rattle.kd_acts.specs.State.{Act, Answer, Hold, Pool, done, free, read, receive}
 use Rattle.kd_acts.specs.Steps.{after, open_step, pool_step}
@@ -77,7 +78,7 @@ pub whole_after :
 whole_after v x o quiet desk holder pools callers steps low w = record {
   pools = ap length pools ∙ length_acted o v.pools.items ∙ w.pools;
   callers = callers ∙ w.callers;
-  below = rw steps (subst (AllByRecursion (IsBelow (v.steps + 1))) (sym pools) (below_acted v.steps o v.pools.items quiet w.below));
+  below = rw steps (subst (AllByRecursion (IsBelow (SLICES * (v.steps + 1)))) (sym pools) (below_more (SLICES * v.steps + 1) (SLICES * (v.steps + 1)) (acted o v.pools.items) (omega arith) (below_acted (SLICES * v.steps) o v.pools.items quiet w.below)));
   ids = rw (desk, steps) (omega (arith, w.ids));
   steps = rw steps (omega (arith, low));
   holder = rw (desk, holder) w.holder;

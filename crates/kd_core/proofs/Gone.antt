@@ -1,8 +1,9 @@
 -- A world that its holder has left.
-use Rattle.std.specs.Prelude.{ℕ, ◌<◌, ◌+◌, ◌-◌, ◌^◌, ◌++◌, List, Option, Some, None, IsTrue, length, option_map, set}
+use Rattle.std.specs.Prelude.{ℕ, ◌<◌, ◌+◌, ◌*◌, ◌-◌, ◌^◌, ◌++◌, List, Option, Some, None, IsTrue, length, option_map, set}
 use Rattle.std.specs.List.{AllByRecursion}
 use Rattle.std.proofs.Common.{◌≡◌, refl, sym, ap, ◌∙◌, subst, arith}
 use Rattle.kd_wire.specs.declared.reply.Reply.{Reply}
+use Rattle.kd_model.specs.declared.slice_no.TheConstants.{SLICES}
 use Rattle.kd_acts.specs.State.{Hold}
 use Rattle.kd_desk.specs.Drafts.{Fits}
 use Rattle.kd_desk.specs.Outs.{ended_on}
@@ -78,7 +79,7 @@ whole_left v x k desk none pools callers steps low w =
     record {
       pools = ap length pools ∙ w.pools;
       callers = callers ∙ w.callers;
-      below = rw steps (subst (AllByRecursion (IsBelow (v.steps + 1))) (sym pools) (more_below v.steps v.pools.items w.below));
+      below = rw steps (subst (AllByRecursion (IsBelow (SLICES * (v.steps + 1)))) (sym pools) (more_below v.steps v.pools.items w.below));
       ids = rw (desk, steps) (omega (arith, w.ids, one));
       steps = rw steps (omega (arith, low));
       holder = rw none tt;

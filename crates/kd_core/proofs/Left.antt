@@ -4,7 +4,7 @@ use Rattle.std.proofs.Common.{◌≡◌, refl, sym, ap, ◌∙◌, arith}
 use Rattle.std.proofs.lemmas.Bool.{true≢false}
 use Rattle.kd_types.specs.declared.creds.Creds.{Creds}
 use Rattle.kd_types.specs.declared.refusal.Refusal.{Refusal}
-use Rattle.kd_acts.specs.State.{Answer, Content}
+use Rattle.kd_acts.specs.State.{Answer, Batch, Content}
 use Rattle.kd_desk.specs.declared.change.Change.{Change}
 use Rattle.kd_desk.specs.declared.change.Change.TheVariants as change
 use Rattle.kd_desk.specs.declared.part.Out.{Out}
@@ -31,6 +31,8 @@ use Rattle.kd_world.specs.Pools.{act_of, pools_after}
 use Rattle.kd_world.specs.Callers.{callers_after, creds_after, hand_after, kind_after, left_caller, pending_made, pendings_made}
 use Rattle.kd_world.specs.Step.{desk_after, holder_after, step}
 use Rattle.kd_world.specs.Answers.{left, says, taken}
+use Rattle.kd_holds.specs.Handing.{answer_told, answers_told}
+use Rattle.kd_holds.proofs.Telling.{ends_alike}
 use Rattle.kd_holds.specs.Placed.{HasKept, IsSpent, all_kept, pending_kept, offer_placed}
 use Rattle.kd_core.specs.Turned.{becomes, turned}
 use Rattle.kd_core.specs.Running.{may}
@@ -57,14 +59,23 @@ one_pending w c (part.Post seat image) o = refl
 one_pending w c (part.Drain seat size) o = refl
 one_pending w c (part.Settle seat) o = refl
 
+told_pending : (w : World) (c : Option Content) (p : code.Part) (o : Out) (b : Option Batch) → pending_made w (part_with c p).seat (part_with c p).act (answer_told p o b) ≡ pending_kept w.pools c (offer_placed p o)
+told_pending w c (part.Raise seat size) o b = refl
+told_pending w c (part.Close seat force) o b = refl
+told_pending w c (part.Offer seat user len from must) o b = one_pending w c (part.Offer seat user len from must) o
+told_pending w c (part.Post seat image) o b = refl
+told_pending w c (part.Drain seat size) o b = refl
+told_pending w c (part.Settle seat) o b = refl
+
 -- the code's pendings are those of the definitions
-pub pendings_are : (w : World) (cs : List (Option Content)) (ps : List code.Part) (outs : List Out) → pendings_made w (parts_with cs ps) (answers_of outs) ≡ all_kept w.pools cs ps outs
-pendings_are w [] [] outs = refl
-pendings_are w (c ∷ cs) [] outs = refl
-pendings_are w [] (p ∷ ps) [] = refl
-pendings_are w (c ∷ cs) (p ∷ ps) [] = refl
-pendings_are w [] (p ∷ ps) (o ∷ outs) = ap (λ xs. xs ++ pendings_made w (parts_with [] ps) (answers_of outs)) (one_pending w None p o) ∙ ap (pending_kept w.pools None (offer_placed p o) ++◌) (pendings_are w [] ps outs)
-pendings_are w (c ∷ cs) (p ∷ ps) (o ∷ outs) = ap (λ xs. xs ++ pendings_made w (parts_with cs ps) (answers_of outs)) (one_pending w c p o) ∙ ap (pending_kept w.pools c (offer_placed p o) ++◌) (pendings_are w cs ps outs)
+pub pendings_are : (w : World) (cs : List (Option Content)) (ps : List code.Part) (outs : List Out) (b : Option Batch) → pendings_made w (parts_with cs ps) (answers_told ps outs b) ≡ all_kept w.pools cs ps outs
+unfolding answers_told
+pendings_are w [] [] outs b = refl
+pendings_are w (c ∷ cs) [] outs b = refl
+pendings_are w [] (p ∷ ps) [] b = refl
+pendings_are w (c ∷ cs) (p ∷ ps) [] b = refl
+pendings_are w [] (p ∷ ps) (o ∷ outs) b = ap (λ xs. xs ++ pendings_made w (parts_with [] ps) (answers_told ps outs b)) (told_pending w None p o b) ∙ ap (pending_kept w.pools None (offer_placed p o) ++◌) (pendings_are w [] ps outs b)
+pendings_are w (c ∷ cs) (p ∷ ps) (o ∷ outs) b = ap (λ xs. xs ++ pendings_made w (parts_with cs ps) (answers_told ps outs b)) (told_pending w c p o b) ∙ ap (pending_kept w.pools c (offer_placed p o) ++◌) (pendings_are w cs ps outs b)
 
 -- ---- how the command ends
 
@@ -79,13 +90,13 @@ spent_alike d w p q None s = rw (s.reply, s.change, s.after) refl
 
 pub ends_as :
     (d : Desk) (h k : holder.Holder) → IsHeld d h → HasKept h k
-    → desk_end d h.who h.command.value (answers_of h.outs.items)
+    → desk_end d h.who h.command.value (answers_told h.plan.parts h.outs.items h.made.drained)
     ≡ record { reply = (ended_on d k.plan k.outs.items).reply; next = (ended_on d k.plan k.outs.items).next; becomes = becomes k.plan k.who.member k.outs.items }
 unfolding desk_end ended_on drafted
 ends_as d h k held has =
-    let outs : List Answer = answers_of h.outs.items in
+    let outs : List Answer = answers_told h.plan.parts h.outs.items h.made.drained in
     let here : first_ends (parts_with h.plan.contents h.plan.parts) outs ≡ first_ends (parts_with k.plan.contents k.plan.parts) (answers_of k.outs.items) =
-    ends_where_it_stops h.plan.contents h.plan.parts h.outs.items ∙ ap (λ ps. stops ps h.outs.items) (sym has.plan.parts) ∙ ap (λ os. stops k.plan.parts os.items) (sym has.outs)
+    ends_alike h.plan.contents h.plan.parts h.outs.items h.made.drained ∙ ends_where_it_stops h.plan.contents h.plan.parts h.outs.items ∙ ap (λ ps. stops ps h.outs.items) (sym has.plan.parts) ∙ ap (λ os. stops k.plan.parts os.items) (sym has.outs)
     ∙ sym (ends_where_it_stops k.plan.contents k.plan.parts k.outs.items) in
     ap (λ (r : Result Plan Refusal). ended_by d h.who r outs) held.plan
     ∙ ap (ended d h.who (drafted d h.plan)) here
@@ -149,5 +160,5 @@ caller_left w h k d old kept me held has pend desk turn =
     ∙ ap (λ (x : Desk). with_end old (record { reply = (ended_on w.desk k.plan k.outs.items).reply; next = x; becomes = becomes k.plan k.who.member k.outs.items }) k.creds (all_kept w.pools h.plan.contents h.plan.parts h.outs.items)) desk
     ∙ ap (λ (e : Ended). with_end old e k.creds (all_kept w.pools h.plan.contents h.plan.parts h.outs.items)) (sym (ends_as w.desk h k held has))
     ∙ ap (λ c. with_end old (command_end w (holder_of h)) c (all_kept w.pools h.plan.contents h.plan.parts h.outs.items)) (has.creds ∙ held.creds)
-    ∙ ap (with_end old (command_end w (holder_of h)) (creds_after h.who.creds h.command.value)) (sym (pendings_are w h.plan.contents h.plan.parts h.outs.items))
-    ∙ ap (λ (r : Result Plan Refusal). with_end old (command_end w (holder_of h)) (creds_after h.who.creds h.command.value) (pendings_made w (parts_in r) (answers_of h.outs.items))) (sym held.plan)
+    ∙ ap (with_end old (command_end w (holder_of h)) (creds_after h.who.creds h.command.value)) (sym (pendings_are w h.plan.contents h.plan.parts h.outs.items h.made.drained))
+    ∙ ap (λ (r : Result Plan Refusal). with_end old (command_end w (holder_of h)) (creds_after h.who.creds h.command.value) (pendings_made w (parts_in r) (answers_told h.plan.parts h.outs.items h.made.drained))) (sym held.plan)

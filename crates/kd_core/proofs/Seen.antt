@@ -21,4 +21,4 @@ held_in w h e i = subst (IsHeldBy w.desk) e i
 pub seat_ahead_in : (w : Inside) (h : code.Holder) → w.holder ≡ Some h → IsHeldBy w.desk w.holder → next_seat (inner w) ≡ option_map seat_in (part_ahead h.plan h.outs.items)
 seat_ahead_in w h e i =
     ap (λ (o : Option code.Holder). elim (option_map holder_of o) [ None ↦ None | Some held ↦ option_map (λ (p : Part). p.seat) (next_visit (inner w) held) ]) e
-    ∙ seat_next (inner w) h (held_in w h e i).plan
+    ∙ seat_next (inner w) h (held_in w h e i)

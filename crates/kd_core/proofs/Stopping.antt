@@ -1,10 +1,9 @@
 -- A list of events that was run up to one that wasn't.
-use Rattle.std.specs.Prelude.{◌≡◌, ℕ, ◌<◌, ◌+◌, ◌++◌, true, false, List, [], ◌∷◌, Some, None, Result, Ok, Err, IsErr, length, take, map}
+use Rattle.std.specs.Prelude.{◌≡◌, ℕ, ◌<◌, ◌++◌, true, false, List, ◌∷◌, Some, None, Result, Ok, Err, IsErr, length, take, map}
 use Rattle.std.specs.Result.{IsErrAnd}
 use Rattle.std.proofs.Common.{refl, sym, subst, ap, ◌∙◌, arith}
 use Rattle.std.proofs.lemmas.List.{length-append, length-map}
 use Rattle.std.proofs.Math.Seq.{take-append_seam}
-use Rattle.kd_world.specs.State.{World}
 use Rattle.kd_world.specs.Legal.{Event}
 use Rattle.kd_core.specs.declared.events.RunError.{RunError}
 use Rattle.kd_core.specs.declared.events.RunError.TheVariants.{Illegal, OutOfMemory}

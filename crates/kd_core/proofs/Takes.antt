@@ -1,5 +1,5 @@
 -- Taking the desk.
-use Rattle.std.specs.Prelude.{ℕ, Bool, true, false, not, ◌&&◌, ◌||◌, List, [], ◌∷◌, Option, Some, None, Ok, Err, IsTrue, is_none, ◌==◌}
+use Rattle.std.specs.Prelude.{ℕ, Bool, true, false, not, ◌&&◌, List, [], ◌∷◌, Some, None, Result, Ok, Err, IfOk, IsTrue, is_none}
 use Rattle.std.proofs.Common.{◌≡◌, refl, sym, ap, ◌∙◌}
 use Rattle.std.proofs.lemmas.Bool.{true≢false}
 use Rattle.kd_model.proofs.Truth.{left_false, left_true, none_is, not_false, right_true}
@@ -16,6 +16,9 @@ use Rattle.kd_commands.specs.State.{Desk}
 use Rattle.kd_commands.specs.Plans.{Plan}
 use Rattle.kd_commands.specs.Step.{plan}
 use Rattle.kd_desk.specs.Runs.{answered, is_no_bus, is_not_run, is_not_run_by, is_planned, unsupported}
+use Rattle.kd_desk.specs.Drafts.{Draft, PlanResult, drafted}
+use Rattle.kd_holds.specs.Handing.{AreInOrder}
+use Rattle.kd_holds.proofs.Orders.{plans_are_in_order}
 use Rattle.kd_world.specs.State.{World, caller_at}
 use Rattle.kd_world.specs.Planner.{names_other_bus, is_elsewhere, is_fresh, planned}
 use Rattle.kd_world.specs.Legal.{take, is_caller, is_for_desk, legal}
@@ -87,3 +90,17 @@ after_refusing w n x why e f = ap (λ r. record w { holder = holder_by n (caller
 pub says_refused : (w : World) (n : ℕ) (x : Command) (why : Refusal) → planned w.desk (caller_at w n).who x ≡ Err why → says w (take n x) ≡ taken_answer (Err why)
 unfolding says
 says_refused w n x why e = ap taken_answer e
+
+-- what isn't refused is the desk's plan
+plan_of : (there : Bool) (r : Result Plan Refusal) (p : Plan) → elim there as (λ b. Result Plan Refusal) [ true ↦ Err (NoSuchBus 0) | false ↦ r ] ≡ Ok p → r ≡ Ok p
+plan_of true r p e = absurd cc
+plan_of false r p e = e
+
+-- so its parts are in order
+pub in_order : (d : Desk) (w : Who) (x : Command) (p : Draft) → is_well_formed x ≡ true → planned d w x ≡ Ok (drafted d p) → AreInOrder p.parts
+unfolding planned drafted
+in_order d w x p form e = plans_are_in_order d w x (drafted d p) p.contents p.parts form (plan_of (is_fresh w.member && names_other_bus x) (plan d w x) (drafted d p) e) refl
+
+pub orders : (d : Desk) (w : Who) (x : Command) (result : Result Draft Refusal) → is_well_formed x ≡ true → PlanResult d (planned d w x) result → IfOk result (λ p. AreInOrder p.parts)
+orders d w x (Ok p) form r = in_order d w x p form r.0
+orders d w x (Err e) form r = tt

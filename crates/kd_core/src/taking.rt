@@ -2,6 +2,7 @@
 
 ghost use Rattle.std.specs.Prelude.{◌≡◌, ◌<◌, ◌^◌, IfOk, IsTrue, OnErr, OnOk};
 ghost use Rattle.kd_core.specs.Planned.{IsPlanned};
+ghost use Rattle.kd_holds.specs.Handing.{AreInOrder};
 ghost use Rattle.kd_core.specs.Running.{may, said, stepped};
 ghost use Rattle.kd_world.specs.State.{caller_at};
 ghost use Rattle.kd_world.specs.Legal.{take};
@@ -38,7 +39,8 @@ impl World {
     ) -> Result<Plan, Refusal>
         requires may { IsTrue (may self.now.world (take caller command)) }
         requires who { who.now ≡ (caller_at self.now.world caller).who }
-        ensures { IsPlanned self.now.world.desk who.now command result }
+        ensures planned { IsPlanned self.now.world.desk who.now command result }
+        ensures order { IfOk result (λ plan. AreInOrder plan.parts) }
     {
         self.desk.plan(alloc, who, command)
     }

@@ -26,9 +26,9 @@ fn visit_next(holder: &mut Option<Holder>, pools: &mut Vec<Hold>) -> Result<Out,
         → IfSome holder.new (λ k. HasVisited h k out)) }
     ensures some { IsSome holder.new }
     ensures pools { IfOk result (λ out.
-        (h : code.Holder) (p : part.Part) (rest : List part.Part) → holder.old ≡ Some h
-        → drop (length h.outs.items) h.plan.parts ≡ p ∷ rest
-        → IsVisited p pools.old.items pools.new.items out) }
+        (h k : code.Holder) (p : part.Part) (rest : List part.Part) → holder.old ≡ Some h
+        → holder.new ≡ Some k → drop (length h.outs.items) h.plan.parts ≡ p ∷ rest
+        → IsVisited p pools.old.items pools.new.items out h.made.drained k.made.drained) }
     ensures same { OnErr result
         ((h : code.Holder) → holder.old ≡ Some h → IfSome holder.new (IsSameHolder h)) }
     ensures pools_same { OnErr result (pools.new.items ≡ pools.old.items) }

@@ -17,7 +17,7 @@ pub returns-in-Err : goal.returns-in-Err
 returns-in-Err c =
     let who = ap (λ (k : Caller). k.who) (c.behind-self.view_is ∙ c.caller.ensures) in
     let ne : c.in-Err.why ≢ why.OutOfMemory = search rules in
-    let refused = refusal_is c.args.self.now.world.desk _ c.in-Err.why ne c.in-Err.ensures in
+    let refused = refusal_is c.args.self.now.world.desk _ c.in-Err.why ne c.in-Err.ensures.planned in
     record {
       ok = refused_in c.self.inside c.args.self.now c.args.caller c.behind-self.inside.who c.args.command c.in-Err.why c.self.view_is who c.requires.may refused;
       answer = refused_said c.args.self.now.world c.args.caller c.behind-self.inside.who c.args.command c.in-Err.why who refused;
@@ -31,16 +31,16 @@ invariant_of-self-2 c =
     c.self.invariant (subst (λ (r : Running). r.steps < 2 ^ 54) (sym c.self.view_is) c.requires.steps)
     (newly_held c.self.inside c.args.self.now
     (record { caller = c.args.caller; who = c.behind-self.inside.who; command = c.of-given.result; creds = c.creds_after-creds.result; plan = c.in-Ok.plan; made = c.in_ok-made.made; outs = c.new.result })
-    c.args.command c.self.view_is c.in-Ok.ensures c.of-given.ensures c.new.ensures.items c.in_ok-made.ensures c.creds_after-creds.ensures)
+    c.args.command c.self.view_is c.in-Ok.ensures.planned c.of-given.ensures c.new.ensures.items c.in-Ok.ensures.order c.in_ok-made.ensures.made c.in_ok-made.ensures.none c.creds_after-creds.ensures)
 
 pub returns-clause-ok : goal.returns-clause-ok
 returns-clause-ok c =
     taken_in c.self.inside c.args.self.now
     (record { caller = c.args.caller; who = c.behind-self.inside.who; command = c.of-given.result; creds = c.creds_after-creds.result; plan = c.in-Ok.plan; made = c.in_ok-made.made; outs = c.new.result })
     c.args.command (drafted c.args.self.now.world.desk c.in-Ok.plan) c.self.view_is
-    (ap (λ (k : Caller). k.who) (c.behind-self.view_is ∙ c.caller.ensures)) c.in-Ok.ensures.0 c.of-given.ensures c.new.ensures.items
+    (ap (λ (k : Caller). k.who) (c.behind-self.view_is ∙ c.caller.ensures)) c.in-Ok.ensures.planned.0 c.of-given.ensures c.new.ensures.items
 
 pub returns-clause-answer : goal.returns-clause-answer
 returns-clause-answer c =
     taken_said c.args.self.now.world c.args.caller c.behind-self.inside.who c.args.command (drafted c.args.self.now.world.desk c.in-Ok.plan)
-    (ap (λ (k : Caller). k.who) (c.behind-self.view_is ∙ c.caller.ensures)) c.in-Ok.ensures.0
+    (ap (λ (k : Caller). k.who) (c.behind-self.view_is ∙ c.caller.ensures)) c.in-Ok.ensures.planned.0

@@ -1,4 +1,5 @@
-use Rattle.std.proofs.Common.{◌∙◌, ◌^◌, ◌-◌, ◌<◌, ◌≤◌, arith, sym, subst}
+use Rattle.std.proofs.Common.{◌∙◌, ◌*◌, ◌^◌, ◌-◌, ◌<◌, ◌≤◌, arith, sym, subst}
+use Rattle.kd_model.specs.declared.slice_no.TheConstants.{SLICES}
 use Rattle.kd_core.specs.Running.{Running}
 use Rattle.kd_holds.proofs.Below.{below_more}
 use Rattle.kd_core.proofs.VisitLaws.{on_any_err, ready_in, visited_in, visited_said, visited_so, unvisited_in, unvisited_so, visiting_in, whole_unvisited, whole_visited}
@@ -11,8 +12,8 @@ visit_next-requires-clause-ready c =
 
 pub visit_next-requires-clause-counts : goal.visit_next-requires-clause-counts
 visit_next-requires-clause-counts c =
-    let few : c.self.inside.steps ≤ 2 ^ 63 - 1 = let steps : c.self.inside.steps ≤ 2 ^ 54 = c.self.invariant.steps in omega (arith, steps) in
-    below_more c.self.inside.steps (2 ^ 63 - 1) c.self.inside.pools.items few c.self.invariant.below
+    let few : SLICES * c.self.inside.steps ≤ 2 ^ 63 - 1 = let steps : c.self.inside.steps ≤ 2 ^ 54 = c.self.invariant.steps in omega (arith, steps) in
+    below_more (SLICES * c.self.inside.steps) (2 ^ 63 - 1) c.self.inside.pools.items few c.self.invariant.below
 
 pub invariant_of-self : goal.invariant_of-self
 invariant_of-self c =
