@@ -15,6 +15,8 @@ use Rattle.kd_world.specs.Agreed.{HandsAgree}
 use Rattle.kd_core.specs.Running.{Running, is_run, may, said, stepped}
 use Rattle.kd_world.proofs.Reached.{hands_always_agree, reached_on}
 use Rattle.kd_world.proofs.Tied.{addressed_is_offered, offered_so_far}
+use Rattle.kd_pairs.specs.Paired.{IsPairedAlong}
+use Rattle.kd_pairs.proofs.Along.{publishes_are_paired}
 use Rattle.kd_core.specs.Along.{barred_by, first_barred, ran, said_along}
 
 pub ran_more : (r : Running) (es : List Event) (e : Event) → ran r (es ++ e ∷ []) ≡ stepped (ran r es) e
@@ -114,3 +116,8 @@ offered_along creator size hashes c r es e f n =
 pub held_along : (creator size hashes c : ℕ) (r : Running) (es : List Event) → r.world ≡ new_world creator size hashes → first_barred r.world es ≡ None
     → IsOfferedSoFar creator size hashes c es
 held_along creator size hashes c r es e f = offered_so_far creator size hashes es c (legal_along (new_world creator size hashes) es (ap (λ x. first_barred x es) (sym e) ∙ f))
+
+-- publishings are of what was offered
+pub paired_along : (creator size hashes : ℕ) (r : Running) (es : List Event) → r.world ≡ new_world creator size hashes → first_barred r.world es ≡ None
+    → IsPairedAlong creator size hashes es
+paired_along creator size hashes r es e f = publishes_are_paired creator size hashes es (legal_along (new_world creator size hashes) es (ap (λ x. first_barred x es) (sym e) ∙ f))

@@ -8,6 +8,7 @@ ghost use Rattle.kd_world.specs.Runs.{IsReached};
 ghost use Rattle.kd_world.specs.Answers.{says};
 ghost use Rattle.kd_world.specs.Tie.{IsOffered, IsOfferedSoFar};
 ghost use Rattle.kd_world.specs.Agreed.{HandsAgree};
+ghost use Rattle.kd_pairs.specs.Paired.{IsPairedAlong};
 
 use crate::event::{Answer, Event};
 use crate::world::World;
@@ -98,6 +99,10 @@ pub fn run_events(
     // And whoever holds it, that and what its holder has visited.
     ensures held { (creator size hashes c : ℕ) → world.old.world ≡ new_world creator size hashes
         → IsOfferedSoFar creator size hashes c (events_run result (map event_of events.items)) }
+    // Each publish that isn't gone is of the last offer before it at its pool that reserved its
+    // number: by the same caller, with that offer's content, and no other stands between the two.
+    ensures paired { (creator size hashes : ℕ) → world.old.world ≡ new_world creator size hashes
+        → IsPairedAlong creator size hashes (events_run result (map event_of events.items)) }
     // Where legal events led to the world, they lead on, and hands agree with pools.
     ensures hands { IsReached world.old.world
         → IsReached world.new.world × HandsAgree world.new.world }

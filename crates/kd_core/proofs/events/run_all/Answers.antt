@@ -1,4 +1,4 @@
-use Rattle.std.proofs.Common.{rules, arith, ◌≡◌, ◌<◌, ◌≤◌, ◌+◌, ◌^◌, ◌++◌, ◌∷◌, ◌∙◌, [], Err, ℕ, length, length-append, append_assoc, map, refl, sym, subst, ap}
+use Rattle.std.proofs.Common.{rules, arith, ◌≡◌, ◌≤◌, ◌+◌, ◌^◌, ◌++◌, ◌∷◌, ◌∙◌, [], Err, length, length-append, append_assoc, map, refl, sym, ap}
 use Rattle.std.proofs.lemmas.List.{length-map, map-append}
 use Rattle.kd_world.specs.Answers.{says}
 use Rattle.kd_core.specs.Running.{Running, event_of, may, said, stepped}
