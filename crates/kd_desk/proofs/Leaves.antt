@@ -39,7 +39,7 @@ unfolding leaving_notices
 leaving_one d c true e = ap (λ m. owners_gone d c.id ++ repliers_gone d c.id ++ map (λ (x : Conn). id_remove x.id) (in_order came_before (cond (not m) (c ∷ []) []))) e
 leaving_one d c false e = ap (λ m. owners_gone d c.id ++ repliers_gone d c.id ++ map (λ (x : Conn). id_remove x.id) (in_order came_before (cond (not m) (c ∷ []) []))) e
 
-parted : (after : Desk) (ps : List Part) (xs ys zs : List Subject) → ps ++ notices after (xs ++ ys ++ zs) ≡ ps ++ notices after xs ++ notices after ys ++ notices after zs
+pub parted : (after : Desk) (ps : List Part) (xs ys zs : List Subject) → ps ++ notices after (xs ++ ys ++ zs) ≡ ps ++ notices after xs ++ notices after ys ++ notices after zs
 parted after ps xs ys zs =
     ap (ps ++◌) (flat_map-append (posts after) (xs ++ ys) zs ∙ ap (λ l. l ++ notices after zs) (flat_map-append (posts after) xs ys))
     ∙ sym (append_assoc ps (notices after xs ++ notices after ys) (notices after zs))

@@ -2,6 +2,7 @@ pub mod Forms
 pub mod Ending
 pub mod Telling
 pub mod Leaves
+pub mod Closes
 pub mod Visits
 pub mod Arrivals
 pub mod Refused

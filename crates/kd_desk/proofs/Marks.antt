@@ -1,15 +1,17 @@
 -- Marks of seats, and the sets that they are.
-use Rattle.std.proofs.Common.{◌≡◌, ℕ, ◌<◌, ◌≤◌, Bool, true, false, cond, List, [], ◌∷◌, length, get_or, set, refl, sym, ap, ◌∙◌, arith, replicate}
-use Rattle.std.specs.Prelude.{◌==◌, ◌||◌, ◌&&◌, not, filter}
+use Rattle.std.proofs.Common.{◌≡◌, ℕ, ◌<◌, ◌≤◌, Bool, true, false, cond, List, [], ◌∷◌, ◌++◌, length, get_or, set, refl, sym, ap, ◌∙◌, arith, replicate}
+use Rattle.std.specs.Prelude.{◌==◌, ◌||◌, ◌&&◌, not, filter, nat_eq}
 use Rattle.std.specs.List.{range_with_len}
-use Rattle.std.proofs.Math.Bool.{and-false}
+use Rattle.std.proofs.Math.Bool.{and-false, or-true}
+use Rattle.std.proofs.Math.ListN.{length-set}
 use Rattle.std.proofs.lemmas.Bool.{eqb-false, eqb-true, ne_eqb}
 use Rattle.std.proofs.lemmas.Grind.{get_or-set_at}
 use Rattle.std.proofs.lemmas.List.{get_or-set_other}
+use Rattle.std.proofs.lemmas.List.Folds.{list_any-append}
 use Rattle.std.proofs.lemmas.Map.Views.{any-filter_same}
 use Rattle.kd_model.specs.Words.{but_those, contains}
 use Rattle.kd_model.proofs.Lists.{all_follow, range_below}
-use Rattle.kd_model.proofs.Truth.{and_true}
+use Rattle.kd_model.proofs.Truth.{and_true, or_false}
 use Rattle.kd_commands.specs.State.{seat_set}
 use Rattle.kd_commands.proofs.Finds.{filter_agrees, passes_none}
 use Rattle.kd_commands.proofs.SeatSets.{range_has}
@@ -61,7 +63,7 @@ with_mark marks n low long = alike (λ k. get_or (set marks n true) k false) (λ
         ∙ ap (λ b. b || contains k (marked marks)) (sym e)
 
 -- one filter after another
-both_filters : {X : Type 0} (p q : X → Bool) (xs : List X) → filter p (filter q xs) ≡ filter (λ x. q x && p x) xs
+pub both_filters : {X : Type 0} (p q : X → Bool) (xs : List X) → filter p (filter q xs) ≡ filter (λ x. q x && p x) xs
 both_filters p q [] = refl
 both_filters {X = X} p q (x ∷ xs) = go (q x) (both_filters p q xs)
   where
@@ -101,3 +103,34 @@ no_mark marks n high =
     one : (k : ℕ) → k < 64 → (b : Bool) → (k == n) ≡ b → get_or marks k false ≡ (get_or marks k false && not (k == n))
     one k h true e = absurd (omega (arith, h, high, eqb-true k n e))
     one k h false e = sym (ap (λ b. get_or marks k false && not b) e ∙ and_true (get_or marks k false))
+
+-- ---- marks at several seats
+
+-- those at these seats were set
+pub record AreMarked (marks before : List Bool) (seats : List ℕ) : Type 0 where
+  pub long : length marks ≡ 64
+  pub at : (n : ℕ) → n < 64 → get_or marks n false ≡ (get_or before n false || contains n seats)
+
+pub none_set : (marks before : List Bool) → marks ≡ before → length before ≡ 64 → AreMarked marks before []
+none_set marks before e long = record { long = ap length e ∙ long; at = λ n h. ap (λ m. get_or m n false) e ∙ or_false (get_or before n false) }
+
+pub one_set : (marks before : List Bool) (seats : List ℕ) (s : ℕ) → s < 64 → AreMarked marks before seats → AreMarked (set marks s true) before (seats ++ s ∷ [])
+one_set marks before seats s low m = record { long = length-set marks s true ∙ m.long; at = λ n h. one n h (n == s) refl }
+  where
+    all : (n : ℕ) → contains n (seats ++ s ∷ []) ≡ (contains n seats || ((n == s) || false))
+    all n = list_any-append (nat_eq n) seats (s ∷ [])
+
+    one : (n : ℕ) → n < 64 → (b : Bool) → (n == s) ≡ b → get_or (set marks s true) n false ≡ (get_or before n false || contains n (seats ++ s ∷ []))
+    one n h true e =
+        get_or-set_at marks s n true false (eqb-true n s e) (omega (arith, low, m.long))
+        ∙ sym (ap (λ b. get_or before n false || b) (all n ∙ ap (λ b. contains n seats || (b || false)) e ∙ or-true (contains n seats)) ∙ or-true (get_or before n false))
+    one n h false e =
+        get_or-set_other marks s n true false (eqb-false n s e)
+        ∙ m.at n h
+        ∙ sym (ap (λ b. get_or before n false || b) (all n ∙ ap (λ b. contains n seats || (b || false)) e ∙ sym (or_false (contains n seats))))
+
+pub all_set : (marks before : List Bool) (seats : List ℕ) → AreMarked marks before seats → marked marks ≡ seat_set (marked before ++ seats)
+unfolding marked seat_set
+all_set marks before seats m =
+    alike (λ k. get_or marks k false) (λ k. contains k (marked before ++ seats))
+    (λ k h. m.at k h ∙ ap (λ b. b || contains k seats) (sym (mark_here before k h)) ∙ sym (list_any-append (nat_eq k) (marked before) seats))

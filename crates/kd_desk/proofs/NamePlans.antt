@@ -1,10 +1,10 @@
 -- What an acquire and a release come to.
 use Rattle.std.proofs.Common.{◌≡◌, ◌<◌, ℕ, Bool, true, false, not, ◌&&◌, ◌||◌, List, [], ◌∷◌, ◌++◌, length, Option, Some, None, Result, Ok, Err, refl, sym, ap, ◌∙◌}
-use Rattle.std.specs.Prelude.{◌==◌, is_none, is_some, unwrap_or, flat_map}
+use Rattle.std.specs.Prelude.{◌==◌, unwrap_or, flat_map}
 use Rattle.kd_model.specs.Words.{is_empty, first_that_holds}
 use Rattle.kd_types.specs.declared.flags.NameFlags.{NameFlags}
 use Rattle.kd_types.specs.declared.refusal.Refusal.{Refusal}
-use Rattle.kd_types.specs.declared.refusal.Refusal.TheVariants.{BadName, NoSuchName, NotOwner, Unsupported}
+use Rattle.kd_types.specs.declared.refusal.Refusal.TheVariants.{BadName, NoSuchName, NotOwner}
 use Rattle.kd_name.specs.Names.{is_name}
 use Rattle.kd_wire.specs.declared.reply.Reply.TheVariants as reply
 use Rattle.kd_registry.specs.declared.claim.Claim.{Claim}
@@ -21,7 +21,6 @@ use Rattle.kd_commands.specs.Audience.{audience, is_shown, new_owner, owner_chan
 use Rattle.kd_commands.specs.Plans.{Part, Plan, itself, notices, posts, announced}
 use Rattle.kd_commands.specs.Names.{activator_in, is_queued, handover, with_claim, acquire_plan, acquire_refusals, name_acquire, has_claim, without_claim, release_refusals, name_release}
 use Rattle.kd_desk.specs.Drafts.{Draft, Fits, parts_with, applied, drafted}
-use Rattle.kd_desk.specs.Runs.{names_activator, takes_over, acquire_answered}
 use Rattle.kd_desk.specs.Owners.{moved, owner_by, acquire_judged, hidden, release_judged}
 use Rattle.kd_desk.proofs.Owning.{owned_by_some, owner_acquired}
 
@@ -116,32 +115,20 @@ release_fits d id n o e = (o, e)
 
 -- ---- acquiring
 
-abbrev answered_by : Option Refusal → Result Verdict Refusal → (Verdict → Plan) → Result Plan Refusal
-answered_by o k plan = elim (is_none o && names_activator k) [ true ↦ Err (Unsupported 8) | false ↦ elim o [ Some r ↦ Err r | None ↦ elim k [ Err r ↦ Err r | Ok v ↦ Ok (plan v) ] ] ]
-
 abbrev verdict_by : Option Refusal → Result Verdict Refusal → Result Verdict Refusal
 verdict_by o k = elim o [ Some r ↦ Err r | None ↦ k ]
 
-pub acquire_refused : (d : Desk) (c : Conn) (flags : NameFlags) (n : List ℕ) (why : Refusal) → Err why ≡ acquire_judged d c flags n → acquire_answered d c flags n ≡ Err why
-unfolding acquire_judged takes_over name_acquire
+abbrev plan_by_verdict : Option Refusal → Result Verdict Refusal → (Verdict → Plan) → Result Plan Refusal
+plan_by_verdict o k plan = elim o [ Some r ↦ Err r | None ↦ elim k [ Err r ↦ Err r | Ok v ↦ Ok (plan v) ] ]
+
+pub acquire_refused : (d : Desk) (c : Conn) (flags : NameFlags) (n : List ℕ) (why : Refusal) → Err why ≡ acquire_judged d c flags n → name_acquire d c flags n ≡ Err why
+unfolding acquire_judged name_acquire
 acquire_refused d c flags n why e = go (first_that_holds (acquire_refusals d c n)) (asked d.registry c.id n flags) e
   where
-    go : (o : Option Refusal) (k : Result Verdict Refusal) → Err why ≡ verdict_by o k → answered_by o k (acquire_plan d c flags n) ≡ Err why
+    go : (o : Option Refusal) (k : Result Verdict Refusal) → Err why ≡ verdict_by o k → plan_by_verdict o k (acquire_plan d c flags n) ≡ Err why
     go (Some r) k h = let is : why ≡ r = cc in ap Err (sym is)
     go None (Err r) h = let is : why ≡ r = cc in ap Err (sym is)
     go None (Ok v) h = absurd cc
-
--- with an activator
-pub acquire_over : (d : Desk) (c : Conn) (flags : NameFlags) (n : List ℕ) (v : Verdict) → Ok v ≡ acquire_judged d c flags n → is_some (activator_in v) ≡ true → acquire_answered d c flags n ≡ Err (Unsupported 8)
-unfolding acquire_judged takes_over name_acquire
-acquire_over d c flags n v e some = go (first_that_holds (acquire_refusals d c n)) (asked d.registry c.id n flags) e
-  where
-    go : (o : Option Refusal) (k : Result Verdict Refusal) → Ok v ≡ verdict_by o k → answered_by o k (acquire_plan d c flags n) ≡ Err (Unsupported 8)
-    go (Some r) k h = absurd cc
-    go None (Err r) h = absurd cc
-    go None (Ok w) h =
-        let is : v ≡ w = cc in
-        ap (λ b. elim b [ true ↦ Err (Unsupported 8) | false ↦ Ok (acquire_plan d c flags n w) ]) (ap (λ z. is_some (activator_in z)) (sym is) ∙ some)
 
 pub acquire_asked : (d : Desk) (c : Conn) (flags : NameFlags) (n : List ℕ) (v : Verdict) → Ok v ≡ acquire_judged d c flags n → asked d.registry c.id n flags ≡ Ok v
 unfolding acquire_judged
@@ -151,42 +138,38 @@ acquire_asked d c flags n v e = go (first_that_holds (acquire_refusals d c n)) (
     go (Some r) k h = absurd cc
     go None k h = sym h
 
--- without one
-acquire_plain : (d : Desk) (c : Conn) (flags : NameFlags) (n : List ℕ) (v : Verdict) → Ok v ≡ acquire_judged d c flags n → is_some (activator_in v) ≡ false → acquire_answered d c flags n ≡ Ok (acquire_plan d c flags n v)
-unfolding acquire_judged takes_over name_acquire
-acquire_plain d c flags n v e none = go (first_that_holds (acquire_refusals d c n)) (asked d.registry c.id n flags) e
+acquire_given : (d : Desk) (c : Conn) (flags : NameFlags) (n : List ℕ) (v : Verdict) → Ok v ≡ acquire_judged d c flags n → name_acquire d c flags n ≡ Ok (acquire_plan d c flags n v)
+unfolding acquire_judged name_acquire
+acquire_given d c flags n v e = go (first_that_holds (acquire_refusals d c n)) (asked d.registry c.id n flags) e
   where
-    go : (o : Option Refusal) (k : Result Verdict Refusal) → Ok v ≡ verdict_by o k → answered_by o k (acquire_plan d c flags n) ≡ Ok (acquire_plan d c flags n v)
+    go : (o : Option Refusal) (k : Result Verdict Refusal) → Ok v ≡ verdict_by o k → plan_by_verdict o k (acquire_plan d c flags n) ≡ Ok (acquire_plan d c flags n v)
     go (Some r) k h = absurd cc
     go None (Err r) h = absurd cc
-    go None (Ok w) h =
-        let is : v ≡ w = cc in
-        ap (λ b. elim b [ true ↦ Err (Unsupported 8) | false ↦ Ok (acquire_plan d c flags n w) ]) (ap (λ z. is_some (activator_in z)) (sym is) ∙ none) ∙ ap (λ z. Ok (acquire_plan d c flags n z)) (sym is)
-
-none_of : (o : Option ℕ) → is_some o ≡ false → o ≡ None
-none_of None h = refl
-none_of (Some x) h = absurd cc
+    go None (Ok w) h = let is : v ≡ w = cc in ap (λ z. Ok (acquire_plan d c flags n z)) (sym is)
 
 -- the plan of an acquire
 abbrev pub acquire_draft : Conn → NameFlags → List ℕ → Verdict → List code.Part → Draft
 acquire_draft c flags n v parts = record { parts = parts; contents = []; reply = reply.NameAcquire (is_queued v); change = change.Acquires c.id flags n v; after = who.Conn c.id c.seat }
 
-drafted_acquire : (d : Desk) (c : Conn) (flags : NameFlags) (n : List ℕ) (v : Verdict) (parts : List code.Part) → asked d.registry c.id n flags ≡ Ok v → is_some (activator_in v) ≡ false → parts_with [] parts ≡ notices d (moved (owner_id d.registry n) (owner_by v c.id (owner_id d.registry n)) n) → acquire_plan d c flags n v ≡ drafted d (acquire_draft c flags n v parts)
+-- its parts: first what is handed over, then the notices
+abbrev pub acquire_parts : Desk → Conn → List ℕ → Verdict → List Part
+acquire_parts d c n v = handover d c (activator_in v) ++ notices d (moved (owner_id d.registry n) (owner_by v c.id (owner_id d.registry n)) n)
+
+drafted_acquire : (d : Desk) (c : Conn) (flags : NameFlags) (n : List ℕ) (v : Verdict) (parts : List code.Part) → asked d.registry c.id n flags ≡ Ok v → parts_with [] parts ≡ acquire_parts d c n v → acquire_plan d c flags n v ≡ drafted d (acquire_draft c flags n v parts)
 unfolding drafted applied with_claim
-drafted_acquire d c flags n v parts e none told =
+drafted_acquire d c flags n v parts e told =
     let old : ℕ = owner_id d.registry n in
     let after : Desk = with_claim d c.id flags n v in
     let planned : List Part → Plan = λ ps. record { parts = ps; reply = reply.NameAcquire (is_queued v); next = after; becomes = itself c } in
-    let no_handover : handover d c (activator_in v) ++ notices after (moved old (owner_id after.registry n) n) ≡ notices after (moved old (owner_id after.registry n) n) = ap (λ a. handover d c a ++ notices after (moved old (owner_id after.registry n) n)) (none_of (activator_in v) none) in
     ap planned (
-    no_handover
-    ∙ moved_same d after.registry after.requests old (owner_id after.registry n) n
-    ∙ ap (λ z. notices d (moved old z n)) (owner_acquired d.registry c.id n flags v e)
+    ap (handover d c (activator_in v) ++◌)
+    (moved_same d after.registry after.requests old (owner_id after.registry n) n
+    ∙ ap (λ z. notices d (moved old z n)) (owner_acquired d.registry c.id n flags v e))
     ∙ sym told)
 
-pub acquire_planned : (d : Desk) (c : Conn) (flags : NameFlags) (n : List ℕ) (v : Verdict) (parts : List code.Part) → Ok v ≡ acquire_judged d c flags n → is_some (activator_in v) ≡ false → parts_with [] parts ≡ notices d (moved (owner_id d.registry n) (owner_by v c.id (owner_id d.registry n)) n) → acquire_answered d c flags n ≡ Ok (drafted d (acquire_draft c flags n v parts))
-acquire_planned d c flags n v parts e none told =
-    acquire_plain d c flags n v e none ∙ ap Ok (drafted_acquire d c flags n v parts (acquire_asked d c flags n v e) none told)
+pub acquire_planned : (d : Desk) (c : Conn) (flags : NameFlags) (n : List ℕ) (v : Verdict) (parts : List code.Part) → Ok v ≡ acquire_judged d c flags n → parts_with [] parts ≡ acquire_parts d c n v → name_acquire d c flags n ≡ Ok (drafted d (acquire_draft c flags n v parts))
+acquire_planned d c flags n v parts e told =
+    acquire_given d c flags n v e ∙ ap Ok (drafted_acquire d c flags n v parts (acquire_asked d c flags n v e) told)
 
 pub acquire_fits : (d : Desk) (c : Conn) (flags : NameFlags) (n : List ℕ) (v : Verdict) → Ok v ≡ acquire_judged d c flags n → length d.registry < 4160 → Fits d (change.Acquires c.id flags n v)
 unfolding Fits

@@ -1,5 +1,5 @@
 -- What is planned can be visited.
-use Rattle.std.proofs.Common.{◌≡◌, ◌<◌, ◌%◌, ℕ, suc, zero, false, is_some, get_or, refl, ◌∙◌, List, [], ◌∷◌, length, map, Option, Some, None, arith, length-append}
+use Rattle.std.proofs.Common.{◌≡◌, ◌<◌, ◌%◌, ℕ, suc, zero, false, is_some, get_or, refl, sym, ◌∙◌, List, [], ◌∷◌, length, map, Option, Some, None, arith, length-append}
 use Rattle.std.specs.List.{AllByRecursion}
 use Rattle.kd_item.proofs.Sizes.{length-spelling}
 use Rattle.kd_item.proofs.Words.{length-words}
@@ -102,3 +102,10 @@ visitable_notices d ss ps a e = visitable_of ps (rw e (notices_visits d ss a))
 
 pub contentless_notices : (d : Desk) (ss : List Subject) (ps : List code.Part) → AllByRecursion IsSeated d.conns → parts_with [] ps ≡ notices d ss → StandByOffers [] ps
 contentless_notices d ss ps a e = contentless [] ps refl (rw e (notices_visits d ss a))
+
+-- a handover before parts that need no contents needs none
+pub behind_handover : (seat size to : ℕ) (ps : List code.Part) → StandByOffers [] ps → StandByOffers [] (part.Drain seat size ∷ part.Settle to ∷ ps)
+unfolding StandByOffers
+behind_handover seat size to ps h zero = refl
+behind_handover seat size to ps h (suc zero) = refl
+behind_handover seat size to ps h (suc (suc n)) = no_content (suc (suc n)) ∙ sym (no_content n) ∙ h n

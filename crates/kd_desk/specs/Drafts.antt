@@ -24,7 +24,7 @@ use Rattle.kd_desk.specs.declared.change.Change.{Change}
 use Rattle.kd_desk.specs.declared.change.Change.TheVariants as change
 use Rattle.kd_commands.specs.State.{Desk, sits_before, unblocked}
 use Rattle.kd_commands.specs.Plans.{Part, Plan}
-use Rattle.kd_commands.specs.Leaving.{without_conns}
+use Rattle.kd_commands.specs.Leaving.{ids_of, on_endpoint, without_conns, without_endpoint}
 use Rattle.kd_commands.specs.Names.{with_claim, without_claim}
 
 -- a plan as the code holds it; the contents of its offers stand by the place of their parts, until
@@ -131,6 +131,7 @@ applied (change.AddsEndpoint label number entries) d = record d {
   endpoints = after_add d.endpoints label;
   policy = after_put d.policy (owner.Endpoint number) entries.items;
 }
+applied (change.EndsEndpoint e leavers) d = without_endpoint d e
 applied (change.Passes now) d = record d {
   moment = now;
   requests = but_those (is_due now) d.requests;
@@ -171,7 +172,7 @@ HasRoomFor r p id (brought.Entries es) = place_of p (owner.Conn id) ≡ None →
 -- the desk can make the change without memory
 unfoldable pub Fits : Desk → Change → Type 0
 Fits d (change.Arrives c b) =
-    (length d.conns < 64) × (c.seat < 64) × (d.next_id < 2 ^ 64 - 1)
+    (length d.conns < 64) × (c.seat < 64) × (c.size % 8 ≡ 0) × (d.next_id < 2 ^ 64 - 1)
     × TakesBrought d.registry c.id b × HasRoomFor d.registry d.policy c.id b
 Fits d (change.Expects q) =
     (expect_answer q.asker q.cookie d.requests ≡ Ok tt) × (length d.requests < 8192)
@@ -188,6 +189,7 @@ Fits d (change.SetsPolicy o entries) = TakesEntries d.policy o entries.items
 Fits d (change.AddsEndpoint label number entries) =
     (add_answer d.endpoints label ≡ Ok number)
     × TakesEntries d.policy (owner.Endpoint number) entries.items
+Fits d (change.EndsEndpoint e leavers) = leavers.items ≡ ids_of (on_endpoint d e)
 Fits d _ = Unit {0}
 
 -- the length of a slice

@@ -1,6 +1,7 @@
 -- What the bus tells by itself, as the code holds it.
-use Rattle.std.specs.Prelude.{ℕ, Bool, false, not, ◌&&◌, [], ◌∷◌, ◌==◌, Option, Some, None}
+use Rattle.std.specs.Prelude.{ℕ, Bool, not, ◌&&◌, List, [], ◌∷◌}
 use Rattle.kd_image.specs.declared.notice.Notice.TheVariants as notice
+use Rattle.kd_replies.specs.Requests.{is_among}
 use Rattle.kd_commands.specs.declared.conn.Conn.{Conn}
 use Rattle.kd_desk.specs.declared.notices.News.{News}
 use Rattle.kd_desk.specs.declared.notices.News.TheVariants as news
@@ -24,16 +25,11 @@ telling_of (news.Owner c) = record { notice = owner_notice c.now; dst = 0 }
 telling_of (news.Dead asker cookie) = record { notice = notice.ReplyDead cookie; dst = asker }
 telling_of (news.Late asker cookie) = record { notice = notice.ReplyTimeout cookie; dst = asker }
 
--- it is the one that leaves
-abbrev pub is_leaver : Option ℕ → Conn → Bool
-is_leaver None c = false
-is_leaver (Some id) c = c.id == id
-
--- the desk without the one that leaves
-abbrev pub without_leaver : Option ℕ → Desk → Desk
-without_leaver None d = d
-without_leaver (Some id) d = without_conns d (id ∷ [])
+-- the desk without those that leave; where nobody does, as it is
+abbrev pub without_leavers : List ℕ → Desk → Desk
+without_leavers [] d = d
+without_leavers (id ∷ ids) d = without_conns d (id ∷ ids)
 
 -- a connection that stays is told
-abbrev pub still_told : Option ℕ → Desk → Subject → Conn → Bool
-still_told leaver d s c = not (is_leaver leaver c) && is_told d s c
+abbrev pub still_told : List ℕ → Desk → Subject → Conn → Bool
+still_told leavers d s c = not (is_among leavers c.id) && is_told d s c

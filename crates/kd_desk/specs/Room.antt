@@ -1,5 +1,5 @@
 -- What contracts see of a desk, what its tables have room for, and where its connections sit.
-use Rattle.std.specs.Prelude.{◌≡◌, ◌≤◌, ◌<◌, ℕ, Bool, false, List, get_or, vec_capacity}
+use Rattle.std.specs.Prelude.{◌≡◌, ◌≤◌, ◌<◌, ◌%◌, ℕ, Bool, false, List, get_or, vec_capacity}
 use Rattle.std.specs.List.{AllByRecursion, range_with_len}
 use Rattle.kd_model.specs.Words.{those}
 use Rattle.kd_commands.specs.declared.conn.Conn.{Conn}
@@ -31,7 +31,12 @@ desk_of d = record {
 abbrev pub IsSeated : Conn → Type 0
 IsSeated c = c.seat < 64
 
+-- its pool has whole words
+abbrev pub HasWords : Conn → Type 0
+HasWords c = c.size % 8 ≡ 0
+
 pub record HasRoom (d : Inside) : Type 0 where
   pub size : d.param.size ≡ d.matches.size
   pub conns : 64 ≤ vec_capacity d.conns
   pub seats : AllByRecursion IsSeated d.conns.items
+  pub words : AllByRecursion HasWords d.conns.items

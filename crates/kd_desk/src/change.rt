@@ -83,6 +83,12 @@ pub(crate) enum Change {
         number: u8,
         entries: Vec<Entry>,
     },
+    /// The endpoint goes with its entries and these connections, which are all on it; their seats
+    /// are blocked.
+    EndsEndpoint {
+        endpoint: u8,
+        leavers: Vec<ConnId>,
+    },
     /// The moment goes on, and what is due goes.
     Passes(Moment),
 }

@@ -1,14 +1,17 @@
 //! Ending a plan: by what the pools answered, its change is made or isn't.
 
-ghost use Rattle.std.specs.Prelude.{◌≡◌, ◌==◌, ◌≤◌, ◌<◌, ◌^◌, ◌+◌, ◌-◌, ℕ, [], ◌∷◌, length, nat_lt, position, vec_capacity, vec_len, Ok};
+ghost use Rattle.std.specs.Prelude.{◌≡◌, ◌==◌, ◌≤◌, ◌<◌, ◌^◌, ◌+◌, ◌++◌, ◌-◌, ◌%◌, ℕ, [], ◌∷◌, length, nat_lt, position, vec_capacity, vec_len, Ok};
+ghost use Rattle.std.specs.List.{AllByRecursion};
 ghost use Rattle.kd_model.specs.Words.{but_those, put_in_order};
 ghost use Rattle.kd_registry.specs.Claims.{asked, release_answer};
 ghost use Rattle.kd_replies.specs.Requests.{is_due};
 ghost use Rattle.kd_desk.specs.Drafts.{Fits, HasRoomFor, TakesBrought, applied, policy_brought, registry_brought};
-ghost use Rattle.kd_commands.specs.State.{sits_before, unblocked};
-ghost use Rattle.kd_commands.specs.Leaving.{without_conns};
+ghost use Rattle.kd_commands.specs.State.{seat_set, sits_before, unblocked};
+ghost use Rattle.kd_commands.specs.Leaving.{ids_of, on_endpoint, without_conns, without_endpoint};
 ghost use Rattle.kd_commands.specs.Names.{with_claim, without_claim};
+ghost use Rattle.kd_desk.specs.Closing.{seats_on};
 ghost use Rattle.kd_desk.specs.Outs.{ended_on, is_needed, stops};
+ghost use Rattle.kd_desk.specs.Room.{IsSeated, marked};
 
 use crate::change::{Brought, Change};
 use crate::desk::{Desk, SEATS};
@@ -73,6 +76,18 @@ fn remove_conn(conns: &mut Vec<Conn>, id: ConnId)
     conns.retain(|conn| !(conn.id == id));
 }
 
+/// Marks the seats of the connections on the endpoint.
+fn mark_seats(marks: &mut [bool; SEATS], conns: &[Conn], endpoint: u8)
+    requires seats { AllByRecursion IsSeated conns.now }
+    ensures { marked marks.new ≡ seat_set (marked marks.old ++ seats_on conns.now endpoint) }
+{
+    'conns: for conn in conns {
+        if conn.endpoint == endpoint {
+            marks[usize::from(conn.seat.0)] = true;
+        }
+    }
+}
+
 impl Desk {
     /// Ends a plan that was made for the desk as it is, by what the pools answered to its visits.
     /// Where the first visit had to be done and was refused the desk stays as it is; else the
@@ -127,6 +142,7 @@ impl Desk {
                 number,
                 entries,
             } => self.add_endpoint(label, number, entries),
+            Change::EndsEndpoint { endpoint, leavers } => self.end_endpoint(endpoint, &leavers),
             Change::Passes(now) => self.pass(now),
         }
     }
@@ -146,6 +162,7 @@ impl Desk {
     fn seat(&mut self, conn: Conn)
         requires room { length self.old.conns < 64 }
         requires seat { conn.seat < 64 }
+        requires words { conn.size % 8 ≡ 0 }
         requires ids { self.old.next_id < 2 ^ 64 - 1 }
         ensures { self.new
             ≡ record self.old {
@@ -184,6 +201,38 @@ impl Desk {
         self.matches.drop_conn(id);
         self.seals.drop_conn(id);
         self.replies.drop_conn(id);
+    }
+
+    /// Connections leave, and all that they have goes.
+    fn leave_all(&mut self, leavers: &[ConnId])
+        ensures { self.new ≡ without_conns self.old leavers.now }
+    {
+        'leavers: for id in leavers {
+            self.leave(*id);
+        }
+    }
+
+    /// The seats of the connections on the endpoint are blocked.
+    fn block_seats(&mut self, endpoint: u8)
+        ensures { self.new
+            ≡ record self.old {
+              blocked = seat_set (self.old.blocked ++ seats_on self.old.conns endpoint);
+            } }
+    {
+        mark_seats(&mut self.gone, &self.conns, endpoint);
+    }
+
+    /// The endpoint goes with its entries and every connection on it, and their seats are blocked
+    /// until their own callers know.
+    #[tactic(auto, unfolding(kd_commands::specs::Leaving::without_endpoint))]
+    fn end_endpoint(&mut self, endpoint: u8, leavers: &[ConnId])
+        requires leavers { leavers.now ≡ ids_of (on_endpoint self.old endpoint) }
+        ensures { self.new ≡ without_endpoint self.old endpoint }
+    {
+        self.block_seats(endpoint);
+        self.leave_all(leavers);
+        self.endpoints.remove(endpoint);
+        self.policy.drop_owner(Owner::Endpoint(endpoint));
     }
 
     /// The seat is free again.

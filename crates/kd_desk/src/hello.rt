@@ -221,7 +221,7 @@ impl Desk {
         if is_monitor(conn) {
             return Ok(());
         }
-        self.tell(alloc, parts, &News::Came(conn.id), None)
+        self.tell(alloc, parts, &News::Came(conn.id), &[])
     }
 
     /// Who owns the name when an activator has it.

@@ -10,6 +10,7 @@ ghost use Rattle.kd_desk.specs.Drafts.{PlanResult, parts_with};
 ghost use Rattle.kd_commands.specs.Leaving.{byebye, close_conn, leave_one, leaving_notices, without_conns};
 ghost use Rattle.kd_commands.specs.Plans.{notices};
 ghost use Rattle.kd_commands.specs.State.{conn_of};
+ghost use Rattle.kd_desk.specs.News.{without_leavers};
 
 use crate::change::Change;
 use crate::desk::Desk;
@@ -77,51 +78,55 @@ impl Desk {
             ++ notices (without_conns self.now (conn.now.id ∷ [])) (leaving_notices self.now (conn.now ∷ []))) }
     {
         let _change: Option<&OwnerChange> = None;
-        self.tell_owners(alloc, parts, conn.id)?;
-        self.tell_dead(alloc, parts, conn.id)?;
+        let leavers = [conn.id];
+        self.tell_owners(alloc, parts, &leavers)?;
+        self.tell_dead(alloc, parts, &leavers)?;
         match conn.kind {
             Kind::Monitor => Ok(()),
             Kind::Ordinary | Kind::Activator | Kind::Holder => {
-                self.tell(alloc, parts, &News::Left(conn.id), Some(conn.id))
+                self.tell(alloc, parts, &News::Left(conn.id), &leavers)
             }
         }
     }
 
     /// The posts of the names whose owner leaves, in byte order.
-    fn tell_owners(
+    pub(crate) fn tell_owners(
         &self,
         alloc: Global,
         parts: &mut Vec<Part>,
-        leaver: ConnId,
+        leavers: &[ConnId],
     ) -> Result<(), AllocError>
         ensures { OnOk result (parts_with [] parts.new.items ≡ parts_with [] parts.old.items
-            ++ notices (without_conns self.now (leaver ∷ [])) (map new_owner (changes_without self.now.registry (leaver ∷ [])))) }
+            ++ notices (without_leavers leavers.now self.now)
+            (map new_owner (changes_without self.now.registry leavers.now))) }
     {
-        let changes = self.registry.changes_without(alloc, &[leaver])?;
+        let changes = self.registry.changes_without(alloc, leavers)?;
         'changes: for change in changes {
-            self.tell(alloc, parts, &News::Owner(&change), Some(leaver))?;
+            self.tell(alloc, parts, &News::Owner(&change), leavers)?;
         }
         Ok(())
     }
 
-    /// The posts to those that wait for a reply of the connection, by asker and cookie.
-    fn tell_dead(
+    /// The posts to those that wait for a reply of one that leaves, by asker and cookie.
+    pub(crate) fn tell_dead(
         &self,
         alloc: Global,
         parts: &mut Vec<Part>,
-        leaver: ConnId,
+        leavers: &[ConnId],
     ) -> Result<(), AllocError>
         ensures { OnOk result (parts_with [] parts.new.items ≡ parts_with [] parts.old.items
-            ++ notices (without_conns self.now (leaver ∷ [])) (map (λ (q : Request). reply_dead q.asker q.cookie) (those (is_dead_without (leaver ∷ [])) self.now.requests))) }
+            ++ notices (without_leavers leavers.now self.now)
+            (map (λ (q : Request). reply_dead q.asker q.cookie)
+            (those (is_dead_without leavers.now) self.now.requests))) }
     {
         let _change: Option<&OwnerChange> = None;
-        let dead = self.replies.dead_without(alloc, &[leaver])?;
+        let dead = self.replies.dead_without(alloc, leavers)?;
         'dead: for request in &dead {
             let news = News::Dead {
                 asker: request.asker,
                 cookie: request.cookie,
             };
-            self.tell(alloc, parts, &news, Some(leaver))?;
+            self.tell(alloc, parts, &news, leavers)?;
         }
         Ok(())
     }

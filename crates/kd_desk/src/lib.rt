@@ -9,18 +9,17 @@
 //!        +--- plan ---> refusal, or a plan ---- each part gets its answer ---- finish
 //! ```
 //!
-//! What a plan is stands in `kd_commands`, command by command. The code plans the commands of
-//! `Runs`: HELLO and ENDPOINT_MAKE that name no bus, SEND, BYEBYE, CLOSE of a connection, ENTER, TICK,
-//! POLICY_SET, SEAL and UNSEAL, the two on rules and the three on names; every other is refused as
-//! `Unsupported`. A planner is a file of its own: `hello`, `endpoints`, `granting`, `sending`,
-//! `leaving`, `naming`, `listing`, `matching`, `sealing`, `ticking`; `finishing` makes the change of a
-//! plan. A message is judged by `sending`, `sharing` and `routing`, and its offers are made by
-//! `offers` and `broadcasting`. What items say is read by `kd_said`.
+//! What a plan is stands in `kd_commands`, command by command. A planner is a file of its own:
+//! `hello`, `endpoints`, `granting`, `sending`, `leaving`, `closing`, `naming`, `listing`,
+//! `matching`, `sealing`, `ticking`; `planning` says who may give what, and `finishing` makes the
+//! change of a plan. A message is judged by `sending`, `sharing` and `routing`, and its offers are
+//! made by `offers` and `broadcasting`. What items say is read by `kd_said`.
 #![tactic(auto)]
 
 mod attaching;
 mod broadcasting;
 mod change;
+mod closing;
 mod content;
 mod desk;
 mod endpoints;

@@ -1,13 +1,13 @@
 //! Names: acquiring and releasing them.
 
-ghost use Rattle.std.specs.Prelude.{◌≡◌, [], IfOk, Ok, is_some};
+ghost use Rattle.std.specs.Prelude.{◌≡◌, ◌<◌, ◌%◌, ◌++◌, [], IfOk, Ok, Some};
 ghost use Rattle.std.specs.List.{AllByRecursion};
 ghost use Rattle.kd_registry.specs.Claims.{owner_id};
 ghost use Rattle.kd_desk.specs.Drafts.{PlanResult, IsVisitable, StandByOffers, parts_with};
-ghost use Rattle.kd_commands.specs.Names.{activator_in, is_queued, name_release};
+ghost use Rattle.kd_commands.specs.Names.{activator_in, handover, is_queued, name_acquire, name_release, seat_of_id};
+ghost use Rattle.kd_commands.specs.State.{conn_of};
 ghost use Rattle.kd_desk.specs.Owners.{IsOwnerThen, acquire_judged, hidden, moved, owner_by, release_judged};
 ghost use Rattle.kd_commands.specs.Plans.{notices};
-ghost use Rattle.kd_desk.specs.Runs.{acquire_answered};
 
 use crate::change::Change;
 use crate::desk::Desk;
@@ -16,7 +16,7 @@ use crate::plan::Plan;
 use kd_commands::{Conn, WhoKind};
 use kd_name::is_name;
 use kd_registry::Verdict;
-use kd_types::{ConnId, NameFlags, OwnerChange, Refusal, Text};
+use kd_types::{ConnId, NameFlags, OwnerChange, Refusal, Seat, Text};
 use kd_wire::Reply;
 use std::alloc::{AllocError, Global};
 
@@ -27,13 +27,13 @@ fn is_queued(verdict: Verdict) -> bool
     matches!(verdict, Verdict::Queued)
 }
 
-/// Whether an activator's place is taken.
-pub(crate) fn has_activator(verdict: Verdict) -> bool
-    ensures { result ≡ is_some (activator_in verdict) }
+/// The activator whose place is taken, if one has the name.
+fn activator_in(verdict: &Verdict) -> Option<ConnId>
+    ensures { result ≡ activator_in verdict.now }
 {
     match verdict {
-        Verdict::Owner { activator, .. } => activator.is_some(),
-        Verdict::Queued => false,
+        Verdict::Owner { activator, .. } => *activator,
+        Verdict::Queued => None,
     }
 }
 
@@ -91,12 +91,7 @@ impl Desk {
 
     /// What the registry answers a connection that asks for a name, where it may own it.
     #[tactic(auto, unfolding(crate::specs::Owners::acquire_judged))]
-    pub(crate) fn judge_acquire(
-        &self,
-        conn: &Conn,
-        flags: NameFlags,
-        name: &Text,
-    ) -> Result<Verdict, Refusal>
+    fn judge_acquire(&self, conn: &Conn, flags: NameFlags, name: &Text) -> Result<Verdict, Refusal>
         ensures { result ≡ acquire_judged self.now conn.now flags name.now }
     {
         if !is_name(name.bytes()) {
@@ -119,9 +114,49 @@ impl Desk {
         }
     }
 
+    /// The seat and the size of the pool of an activator, which is connected.
+    fn activator_pool(&self, id: ConnId) -> (Seat, u32)
+        ensures seat { result.0 ≡ seat_of_id self.now id }
+        ensures low { result.0 < 64 }
+        ensures words { result.1 % 8 ≡ 0 }
+    {
+        match self.conn_of(id) {
+            Some(conn) => (conn.seat, conn.size),
+            None => (Seat(0), 0),
+        }
+    }
+
+    /// Puts the handover before the posts: what waits for an activator whose place is taken is
+    /// drained from its pool, and settles in that of the new owner.
+    fn handed_over(
+        &self,
+        alloc: Global,
+        conn: &Conn,
+        verdict: &Verdict,
+        mut posts: Vec<Part>,
+    ) -> Result<Vec<Part>, AllocError>
+        requires seat { conn.now.seat < 64 }
+        requires visitable { AllByRecursion IsVisitable posts.items }
+        requires contents { StandByOffers [] posts.items }
+        ensures parts { IfOk result (λ parts. parts_with [] parts.items
+            ≡ handover self.now conn.now (activator_in verdict.now) ++ parts_with [] posts.items) }
+        ensures visitable { IfOk result (λ parts. AllByRecursion IsVisitable parts.items) }
+        ensures contents { IfOk result (λ parts. StandByOffers [] parts.items) }
+    {
+        let Some(id) = activator_in(verdict) else {
+            return Ok(posts);
+        };
+        let (seat, size) = self.activator_pool(id);
+        let mut parts = Vec::with_capacity(alloc, posts.len())?;
+        parts.push(Part::Drain { seat, size })?;
+        parts.push(Part::Settle { seat: conn.seat })?;
+        parts.append(&mut posts)?;
+        Ok(parts)
+    }
+
     /// What it comes to that the connection asks for the name: it owns it or waits in the queue,
-    /// and if it is the new owner, all are told that may see it. A name that an activator owns
-    /// isn't taken over so far.
+    /// and if it is the new owner, all are told that may see it. Where it takes the place of an
+    /// activator, what waits there is handed over to it.
     pub(crate) fn plan_acquire(
         &self,
         alloc: Global,
@@ -129,18 +164,17 @@ impl Desk {
         flags: NameFlags,
         name: Text,
     ) -> Result<Plan, Refusal>
-        ensures { PlanResult self.now (acquire_answered self.now conn.now flags name) result }
+        requires live { conn_of self.now conn.now.id ≡ Some conn.now }
+        ensures { PlanResult self.now (name_acquire self.now conn.now flags name) result }
     {
         let verdict = self.judge_acquire(conn, flags, &name)?;
-        if has_activator(verdict) {
-            return Err(Refusal::Unsupported { cmd: 8 });
-        }
         if !self.registry.has_room() {
             return Err(Refusal::OutOfMemory);
         }
         let old = self.owner_id(&name);
         let new = owner_by(&verdict, conn, old);
-        let parts = self.moved_posts(alloc, &name, old, new)?;
+        let posts = self.moved_posts(alloc, &name, old, new)?;
+        let parts = self.handed_over(alloc, conn, &verdict, posts)?;
         Ok(Plan {
             parts,
             contents: Vec::new(alloc),

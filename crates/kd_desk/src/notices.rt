@@ -5,7 +5,8 @@ ghost use Rattle.std.specs.List.{AllByRecursion};
 ghost use Rattle.kd_image.specs.Images.{notice_image};
 ghost use Rattle.kd_commands.specs.Audience.{asks_for, is_asker, is_shown, is_told, new_owner, owner_notice, sees_ids, change_told};
 ghost use Rattle.kd_desk.specs.Drafts.{IsVisitable, StandByOffers, parts_with};
-ghost use Rattle.kd_desk.specs.News.{is_leaver, still_told, news_subject, telling_of, without_leaver};
+ghost use Rattle.kd_replies.specs.Requests.{is_among};
+ghost use Rattle.kd_desk.specs.News.{still_told, news_subject, telling_of, without_leavers};
 ghost use Rattle.kd_commands.specs.Plans.{posts};
 
 use crate::desk::Desk;
@@ -82,14 +83,11 @@ fn is_asker(conn: &Conn, news: &News) -> bool
     }
 }
 
-/// Whether the connection leaves.
-fn is_leaver(conn: &Conn, leaver: Option<ConnId>) -> bool
-    ensures { result ≡ is_leaver leaver conn.now }
+/// Whether the connection is one of those that leave.
+fn is_leaver(conn: &Conn, leavers: &[ConnId]) -> bool
+    ensures { result ≡ is_among leavers.now conn.now.id }
 {
-    match leaver {
-        Some(id) => conn.id == id,
-        None => false,
-    }
+    leavers.iter().any(|id| *id == conn.id)
 }
 
 impl Desk {
@@ -142,29 +140,28 @@ impl Desk {
     }
 
     /// Whether the connection stays, and is told.
-    fn is_still_told(&self, conn: &Conn, news: &News, leaver: Option<ConnId>) -> bool
-        ensures { result ≡ still_told leaver self.now (news_subject news.now) conn.now }
+    fn is_still_told(&self, conn: &Conn, news: &News, leavers: &[ConnId]) -> bool
+        ensures { result ≡ still_told leavers.now self.now (news_subject news.now) conn.now }
     {
-        !is_leaver(conn, leaver) && self.is_told(conn, news)
+        !is_leaver(conn, leavers) && self.is_told(conn, news)
     }
 
-    /// The posts of a notice by the desk without the connection that leaves, if one does; by rising
-    /// seat.
+    /// The posts of a notice by the desk without those that leave, by rising seat.
     #[tactic(auto, using(crate::proofs::Telling::posts_without))]
     pub(crate) fn posts(
         &self,
         alloc: Global,
         news: &News,
-        leaver: Option<ConnId>,
+        leavers: &[ConnId],
     ) -> Result<Vec<Part>, AllocError>
         ensures { IfOk result (λ parts.
             parts_with [] parts.items
-            ≡ posts (without_leaver leaver self.now) (news_subject news.now)) }
+            ≡ posts (without_leavers leavers.now self.now) (news_subject news.now)) }
     {
         let image = image_of(alloc, news)?;
         let mut parts = Vec::new(alloc);
         'receivers: for conn in &self.conns {
-            if self.is_still_told(conn, news, leaver) {
+            if self.is_still_told(conn, news, leavers) {
                 let image = Blob::of(image.to_vec(alloc)?);
                 parts.push(Part::Post {
                     seat: conn.seat,
@@ -188,7 +185,7 @@ impl Desk {
         ensures contents { IfOk result (λ parts. StandByOffers [] parts.items) }
     {
         let _ = &self.conns;
-        let parts = self.posts(alloc, &News::Owner(change), None)?;
+        let parts = self.posts(alloc, &News::Owner(change), &[])?;
         Ok(parts)
     }
 
@@ -198,13 +195,13 @@ impl Desk {
         alloc: Global,
         parts: &mut Vec<Part>,
         news: &News,
-        leaver: Option<ConnId>,
+        leavers: &[ConnId],
     ) -> Result<(), AllocError>
         ensures { OnOk result (parts_with [] parts.new.items
             ≡ parts_with [] parts.old.items
-            ++ posts (without_leaver leaver self.now) (news_subject news.now)) }
+            ++ posts (without_leavers leavers.now self.now) (news_subject news.now)) }
     {
-        let mut posts = self.posts(alloc, news, leaver)?;
+        let mut posts = self.posts(alloc, news, leavers)?;
         parts.append(&mut posts)
     }
 }

@@ -63,7 +63,7 @@ impl Desk {
                 asker: request.asker,
                 cookie: request.cookie,
             };
-            self.tell(alloc, parts, &news, None)?;
+            self.tell(alloc, parts, &news, &[])?;
         }
         Ok(())
     }

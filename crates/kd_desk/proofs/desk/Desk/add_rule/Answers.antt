@@ -10,4 +10,5 @@ invariant_of-self c = record {
   size = c.self.invariant.size ∙ sym (ap (λ (t : Table). t.size) (when_ok c.add.result _ c.unwrap.ensures c.add.ensures.added));
   conns = c.self.invariant.conns;
   seats = c.self.invariant.seats;
+  words = c.self.invariant.words;
 }

@@ -2,7 +2,7 @@
 use Rattle.std.proofs.Common.{arith, refl, sym, ap, ◌∙◌}
 use Rattle.kd_model.proofs.Lists.{all_of_filter}
 use Rattle.kd_commands.specs.Leaving.{without_conns}
-use Rattle.kd_desk.specs.Room.{IsSeated}
+use Rattle.kd_desk.specs.Room.{HasWords, IsSeated}
 use Rattle.kd_commands.proofs.Gone.{conns_without, claims_without, requests_without}
 use Rattle.kd_desk.proofs.desk.Desk.leave.Goals as goal
 
@@ -11,6 +11,7 @@ invariant_of-self c = record {
   size = c.self.invariant.size ∙ sym (ap (λ t. t.size) c.drop_conn-2.ensures);
   conns = omega (arith, c.self.invariant.conns, c.remove_conn.ensures.room);
   seats = rw c.remove_conn.ensures.others (all_of_filter IsSeated _ c.self.inside.conns.items c.self.invariant.seats);
+  words = rw c.remove_conn.ensures.others (all_of_filter HasWords _ c.self.inside.conns.items c.self.invariant.words);
 }
 
 pub returns : goal.returns

@@ -1,31 +1,35 @@
-use Rattle.std.proofs.Common.{◌≡◌, ◌<◌, ap, sym, subst, ◌∙◌, [], length, ℕ, false}
-use Rattle.std.specs.Prelude.{is_some}
+use Rattle.std.proofs.Common.{◌≡◌, ◌<◌, ap, subst, ◌∙◌, [], ◌++◌, length, ℕ}
+use Rattle.std.specs.List.{AllByRecursion}
+use Rattle.kd_model.proofs.Lists.{all_of_found}
 use Rattle.kd_registry.specs.Claims.{owner_id}
-use Rattle.kd_commands.specs.State.{Desk}
-use Rattle.kd_commands.specs.Names.{activator_in}
+use Rattle.kd_commands.specs.State.{Desk, has_id}
+use Rattle.kd_commands.specs.Names.{activator_in, handover, name_acquire}
 use Rattle.kd_desk.specs.Drafts.{parts_with}
 use Rattle.kd_desk.specs.Owners.{moved, owner_by}
+use Rattle.kd_desk.specs.Room.{IsSeated}
 use Rattle.kd_commands.specs.Plans.{notices}
-use Rattle.kd_desk.specs.Runs.{acquire_answered}
 use Rattle.kd_desk.proofs.Refused.{refused_with}
-use Rattle.kd_desk.proofs.NamePlans.{acquire_fits, acquire_over, acquire_planned, acquire_refused}
+use Rattle.kd_desk.proofs.NamePlans.{acquire_fits, acquire_parts, acquire_planned, acquire_refused}
 use Rattle.kd_desk.proofs.desk.Desk.plan_acquire.Goals as goal
 
 pub returns-in_err-verdict : goal.returns-in_err-verdict
-returns-in_err-verdict c = refused_with c.args.self.now (acquire_answered c.args.self.now c.args.conn.now c.args.flags c.args.name) c.from_residual.result c.in_err-verdict.field-0.0 c.from_residual.ensures.1 (acquire_refused c.args.self.now c.args.conn.now c.args.flags c.args.name c.in_err-verdict.field-0.0 c.in_err-verdict.ensures)
+returns-in_err-verdict c = refused_with c.args.self.now (name_acquire c.args.self.now c.args.conn.now c.args.flags c.args.name) c.from_residual.result c.in_err-verdict.field-0.0 c.from_residual.ensures.1 (acquire_refused c.args.self.now c.args.conn.now c.args.flags c.args.name c.in_err-verdict.field-0.0 c.in_err-verdict.ensures)
 
-pub returns-then-has_activator : goal.returns-then-has_activator
-returns-then-has_activator c = acquire_over c.args.self.now c.args.conn.now c.args.flags c.args.name c.in_ok-verdict.verdict c.in_ok-verdict.ensures (sym c.has_activator.ensures ∙ c.if-has_activator.true)
+pub handed_over-requires-clause-seat : goal.handed_over-requires-clause-seat
+handed_over-requires-clause-seat c =
+    let d : Desk = c.args.self.now in
+    let seats : AllByRecursion IsSeated d.conns = subst (λ (y : Desk). AllByRecursion IsSeated y.conns) c.self.view_is c.self.invariant.seats in
+    all_of_found IsSeated (has_id c.args.conn.now.id) d.conns c.args.conn.now seats c.requires.live
 
 pub returns : goal.returns
 returns c =
     let d = c.args.self.now in
     let n = c.args.name in
     let v = c.in_ok-verdict.verdict in
-    let none : is_some (activator_in v) ≡ false = sym c.has_activator.ensures ∙ c.if-has_activator.false in
-    let told : parts_with [] c.in_ok-parts.parts.items ≡ notices d (moved (owner_id d.registry n) (owner_by v c.args.conn.now.id (owner_id d.registry n)) n) = c.in_ok-parts.ensures.posts ∙ ap (λ (new : ℕ). notices c.args.self.now (moved c.owner_id-old.result new c.args.name)) c.owner_by-new.ensures ∙ ap (λ (old : ℕ). notices c.args.self.now (moved old (owner_by c.in_ok-verdict.verdict c.args.conn.now.id old) c.args.name)) c.owner_id-old.ensures in
+    let told : parts_with [] c.in_ok-posts.posts.items ≡ notices d (moved (owner_id d.registry n) (owner_by v c.args.conn.now.id (owner_id d.registry n)) n) = c.in_ok-posts.ensures.posts ∙ ap (λ (new : ℕ). notices c.args.self.now (moved c.owner_id-old.result new c.args.name)) c.owner_by-new.ensures ∙ ap (λ (old : ℕ). notices c.args.self.now (moved old (owner_by c.in_ok-verdict.verdict c.args.conn.now.id old) c.args.name)) c.owner_id-old.ensures in
+    let whole : parts_with [] c.in_ok-parts.parts.items ≡ acquire_parts d c.args.conn.now n v = c.in_ok-parts.ensures.parts ∙ ap (handover d c.args.conn.now (activator_in v) ++◌) told in
     let room : length d.registry < 4160 = subst (λ (e : Desk). length e.registry < 4160) c.self.view_is (c.has_room.ensures.0 c.if-not-has_room.false) in (
-      rw (c.new.ensures.items, c.is_queued.ensures) (acquire_planned d c.args.conn.now c.args.flags n v c.in_ok-parts.parts.items c.in_ok-verdict.ensures none told),
+      rw (c.new.ensures.items, c.is_queued.ensures) (acquire_planned d c.args.conn.now c.args.flags n v c.in_ok-parts.parts.items c.in_ok-verdict.ensures whole),
       acquire_fits d c.args.conn.now c.args.flags n v c.in_ok-verdict.ensures room,
       c.in_ok-parts.ensures.visitable,
       rw c.new.ensures.items c.in_ok-parts.ensures.contents,

@@ -55,7 +55,7 @@ returns c =
     let below : x.seat < 64 = seated d creds a x b is none in
     let eights : x.size % 8 ≡ 0 = rw (size_asked d creds a x is) c.requires.eights in (
       rw (size, hashes, c.itself-after.ensures) (hello_planned d creds a x b c.in-Some.endpoint ps c.new.result.items is by at none c.new.ensures.items c.in_ok-parts.ensures),
-      (room, below, omega (arith, c.requires.ids), takes_brought d x b none, tables),
+      (room, below, eights, omega (arith, c.requires.ids), takes_brought d x b none, tables),
       hello_visits d x b ps seats below eights c.in_ok-parts.ensures,
       hello_contents d x b ps c.new.result.items c.new.ensures.items seats below eights c.in_ok-parts.ensures,
     )

@@ -13,4 +13,4 @@ returns c =
     let cs : List Conn = c.args.self.now.conns in
     let same : c.deref-conn-items.result.now ≡ cs = c.deref-conn-items.ensures.value ∙ ap (λ d. d.conns) c.self.view_is in
     let far : length cs ≤ c.receivers.conn-index = omega (arith, ap length same, c.receivers-test.false) in
-    c.receivers.invariant ∙ ap (λ xs. map (posted (telling_of c.args.news.now)) (those (still_told c.args.leaver c.args.self.now (news_subject c.args.news.now)) xs)) (take_all c.receivers.conn-index cs far) ∙ sym (posts_without c.args.leaver c.args.self.now c.args.news.now)
+    c.receivers.invariant ∙ ap (λ xs. map (posted (telling_of c.args.news.now)) (those (still_told c.args.leavers.now c.args.self.now (news_subject c.args.news.now)) xs)) (take_all c.receivers.conn-index cs far) ∙ sym (posts_without c.args.leavers.now c.args.self.now c.args.news.now)

@@ -6,4 +6,4 @@ use Rattle.kd_commands.specs.Plans.{posted}
 use Rattle.kd_desk.proofs.desk.Desk.posts.Given as goal
 
 abbrev pub invariant-receivers : goal.invariant-receivers
-invariant-receivers l = parts_with [] l.parts.items ≡ map (posted (telling_of l.news)) (those (still_told l.leaver l.self (news_subject l.news)) (take l.conn-index l.self.conns))
+invariant-receivers l = parts_with [] l.parts.items ≡ map (posted (telling_of l.news)) (those (still_told l.leavers l.self (news_subject l.news)) (take l.conn-index l.self.conns))
