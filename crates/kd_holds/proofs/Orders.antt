@@ -1,7 +1,7 @@
 -- The parts of the code are in order, since those of the definitions are.
-use Rattle.std.specs.Prelude.{◌≡◌, ◌⊎◌, ℕ, true, List, [], ◌∷◌, Ok, Option, Some, None, refl}
+use Rattle.std.specs.Prelude.{◌≡◌, ℕ, List, [], ◌∷◌, Option, None, refl}
 use Rattle.std.specs.List.{AllByRecursion}
-use Rattle.std.proofs.Common.{ap, inl, inr, subst, sym, ◌∙◌}
+use Rattle.std.proofs.Common.{ap, inl, inr, subst, sym}
 use Rattle.kd_acts.specs.State.{Content, drain, settle}
 use Rattle.kd_commands.specs.Plans.{Part}
 use Rattle.kd_desk.specs.declared.part.Part as code
@@ -11,7 +11,7 @@ use Rattle.kd_handovers.specs.Handovers as planned
 use Rattle.kd_handovers.specs.Openings as planned_small
 use Rattle.kd_handovers.proofs.First.{handovers_come_first}
 use Rattle.kd_handovers.proofs.Opening.{pools_are_small}
-use Rattle.kd_holds.specs.Handing.{AreInOrder, AreStill, HandsOver, IsSmall, PlansAreInOrder}
+use Rattle.kd_holds.specs.Handing.{AreStill, HandsOver, IsSmall, PlansAreInOrder}
 use Rattle.kd_holds.proofs.Stocks.{still_hands}
 
 -- ---- part by part
