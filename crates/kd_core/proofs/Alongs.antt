@@ -4,7 +4,6 @@ use Rattle.std.proofs.Common.{refl, sym, subst, ap, ◌∙◌, arith}
 use Rattle.std.proofs.lemmas.List.{length-map}
 use Rattle.std.proofs.Math.Seq.{take-append_seam}
 use Rattle.std.proofs.lemmas.Bool.{true≢false}
-use Rattle.kd_model.proofs.Truth.{left_true}
 use Rattle.kd_world.specs.State.{World, new_world}
 use Rattle.kd_world.specs.Legal.{Event, legal}
 use Rattle.kd_world.specs.Step.{step}
@@ -12,7 +11,7 @@ use Rattle.kd_world.specs.Runs.{all_legal, world_after, IsReached}
 use Rattle.kd_world.specs.Answers.{says}
 use Rattle.kd_world.specs.Tie.{IsOffered, IsOfferedSoFar}
 use Rattle.kd_world.specs.Agreed.{HandsAgree}
-use Rattle.kd_core.specs.Running.{Running, is_run, may, said, stepped}
+use Rattle.kd_core.specs.Running.{Running, said, stepped}
 use Rattle.kd_world.proofs.Reached.{hands_always_agree, reached_on}
 use Rattle.kd_world.proofs.Tied.{addressed_is_offered, offered_so_far}
 use Rattle.kd_pairs.specs.Paired.{IsPairedAlong}
@@ -35,19 +34,19 @@ goes_on true None h = (refl, refl)
 goes_on true (Some n) h = absurd cc
 goes_on false o h = absurd cc
 
-pub legal_more : (r : Running) (es : List Event) (e : Event) → first_barred r.world es ≡ None → may (ran r es).world e ≡ true → first_barred r.world (es ++ e ∷ []) ≡ None
+pub legal_more : (r : Running) (es : List Event) (e : Event) → first_barred r.world es ≡ None → legal (ran r es).world e ≡ true → first_barred r.world (es ++ e ∷ []) ≡ None
 unfolding first_barred ran stepped
 legal_more r [] e h m = ap (λ b. barred_by b None) m
 legal_more r (x ∷ es) e h m =
-    let g = goes_on (may r.world x) (first_barred (step r.world x) es) h in
+    let g = goes_on (legal r.world x) (first_barred (step r.world x) es) h in
     ap (λ b. barred_by b (first_barred (step r.world x) (es ++ e ∷ []))) g.0 ∙ ap (barred_by true) (legal_more (stepped r x) es e g.1 m)
 
 -- the first that may not happen stands behind those that may
-pub barred_there : (r : Running) (es : List Event) (e : Event) (rest : List Event) → first_barred r.world es ≡ None → may (ran r es).world e ≡ false → first_barred r.world (es ++ e ∷ rest) ≡ Some (length es)
+pub barred_there : (r : Running) (es : List Event) (e : Event) (rest : List Event) → first_barred r.world es ≡ None → legal (ran r es).world e ≡ false → first_barred r.world (es ++ e ∷ rest) ≡ Some (length es)
 unfolding first_barred ran stepped
 barred_there r [] e rest h m = ap (λ b. barred_by b (first_barred (step r.world e) rest)) m
 barred_there r (x ∷ es) e rest h m =
-    let g = goes_on (may r.world x) (first_barred (step r.world x) es) h in
+    let g = goes_on (legal r.world x) (first_barred (step r.world x) es) h in
     let one : length es + 1 ≡ length (x ∷ es) = omega arith in
     ap (λ b. barred_by b (first_barred (step r.world x) (es ++ e ∷ rest))) g.0 ∙ ap (barred_by true) (barred_there (stepped r x) es e rest g.1 m) ∙ ap Some one
 
@@ -76,17 +75,17 @@ unfolding ran world_after stepped
 runs_along r [] = refl
 runs_along r (e ∷ es) = runs_along (stepped r e) es
 
-both_hold : (a b c : Bool) → a && b ≡ true → c ≡ true → IsTrue (a && c)
-both_hold true b c h t = t
-both_hold false b c h t = absurd (true≢false (sym h))
+both_true_is : (a b : Bool) → a ≡ true → IsTrue b → IsTrue (a && b)
+both_true_is true b h t = t
+both_true_is false b h t = absurd (true≢false (sym h))
 
 -- what may all happen is legal
 pub legal_along : (w : World) (es : List Event) → first_barred w es ≡ None → IsTrue (all_legal w es)
-unfolding first_barred all_legal may
+unfolding first_barred all_legal
 legal_along w [] h = refl
 legal_along w (e ∷ es) h =
-    let g = goes_on (may w e) (first_barred (step w e) es) h in
-    both_hold (legal w e) (is_run w e) (all_legal (step w e) es) g.0 (legal_along (step w e) es g.1)
+    let g = goes_on (legal w e) (first_barred (step w e) es) h in
+    both_true_is (legal w e) (all_legal (step w e) es) g.0 (legal_along (step w e) es g.1)
 
 -- an answer, or want of memory
 pub either_way : {X Y A B : Type 0} (C : Type 0) (r : Result X Y) → OnOk r A → OnErr r B → (A → C) → (B → C) → C
@@ -94,15 +93,14 @@ either_way C (Ok x) a b f g = f a
 either_way C (Err e) a b f g = g b
 
 -- what may happen leads on from a world that legal events led to
-pub reached_by : (w : World) (e : Event) → may w e ≡ true → IsReached w → IsReached (step w e)
-unfolding may
-reached_by w e m = reached_on w e (left_true (legal w e) (is_run w e) m)
+pub reached_by : (w : World) (e : Event) → legal w e ≡ true → IsReached w → IsReached (step w e)
+reached_by w e m = reached_on w e m
 
 pub reached_along : (r : Running) (es : List Event) → first_barred r.world es ≡ None → IsReached r.world → IsReached (ran r es).world × HandsAgree (ran r es).world
 unfolding first_barred ran stepped
 reached_along r [] h f = (f, hands_always_agree r.world f)
 reached_along r (e ∷ es) h f =
-    let g = goes_on (may r.world e) (first_barred (step r.world e) es) h in reached_along (stepped r e) es g.1 (reached_by r.world e g.0 f)
+    let g = goes_on (legal r.world e) (first_barred (step r.world e) es) h in reached_along (stepped r e) es g.1 (reached_by r.world e g.0 f)
 
 -- from the opening of a bus, when the desk is free again
 pub offered_along : (creator size hashes c : ℕ) (r : Running) (es : List Event) → r.world ≡ new_world creator size hashes → first_barred r.world es ≡ None → IsNone ((ran r es).world.holder)

@@ -16,10 +16,10 @@ use Rattle.kd_holds.specs.Counts.{IsBelow}
 use Rattle.kd_core.specs.Held.{IsHeld, IsWhole, holder_of, world_of}
 use Rattle.kd_holds.specs.Placed.{HasKept, all_kept}
 use Rattle.kd_core.specs.Turned.{becomes, turned}
-use Rattle.kd_core.specs.Running.{Running, may, said, stepped}
+use Rattle.kd_core.specs.Running.{Running, said, stepped}
 use Rattle.kd_world.specs.State.{Caller, caller_at}
 use Rattle.kd_world.specs.Holding.{command_end}
-use Rattle.kd_world.specs.Legal.{leave}
+use Rattle.kd_world.specs.Legal.{leave, legal}
 use Rattle.kd_world.specs.Callers.{left_caller}
 use Rattle.kd_world.specs.Answers.{says}
 use Rattle.kd_core.proofs.Left.{after_leaving, caller_left, ends_as, ids_by_one, leaves_held, says_left}
@@ -32,11 +32,11 @@ pub record IsHolding (w : Inside) : Type 0 where
   pub holds : w.holder ≡ Some holder
   pub held : IsHeld w.desk holder
 
-pub holding_in : (w : Inside) (r : Running) (n : ℕ) → world_of w ≡ r → IsTrue (may r.world (leave n)) → IsWhole w → IsHolding w
+pub holding_in : (w : Inside) (r : Running) (n : ℕ) → world_of w ≡ r → IsTrue (legal r.world (leave n)) → IsWhole w → IsHolding w
 holding_in w r n v m i = go w.holder refl
   where
     go : (o : Option holder.Holder) → w.holder ≡ o → IsHolding w
-    go None e = absurd (leaves_held (inner w) n (subst (λ (s : Running). IsTrue (may s.world (leave n))) (sym v) m) (ap (option_map holder_of) e))
+    go None e = absurd (leaves_held (inner w) n (subst (λ (s : Running). IsTrue (legal s.world (leave n))) (sym v) m) (ap (option_map holder_of) e))
     go (Some h) e = record { holder = h; holds = e; held = held_in w h e i.holder }
 
 pub fits_in : (w : Inside) (h : IsHolding w) (k : holder.Holder) → HasKept h.holder k → Fits w.desk k.plan.change

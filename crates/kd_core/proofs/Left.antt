@@ -1,5 +1,5 @@
 -- Leaving the desk.
-use Rattle.std.specs.Prelude.{ℕ, ◌≤◌, ◌+◌, ◌-◌, ◌++◌, true, false, ◌&&◌, List, [], ◌∷◌, Option, Some, None, Result, IsTrue, is_none, ◌==◌, set}
+use Rattle.std.specs.Prelude.{ℕ, ◌≤◌, ◌+◌, ◌-◌, ◌++◌, false, ◌&&◌, List, [], ◌∷◌, Option, Some, None, Result, IsTrue, is_none, ◌==◌, set}
 use Rattle.std.proofs.Common.{◌≡◌, refl, sym, ap, ◌∙◌, arith}
 use Rattle.std.proofs.lemmas.Bool.{true≢false}
 use Rattle.kd_types.specs.declared.creds.Creds.{Creds}
@@ -15,7 +15,7 @@ use Rattle.kd_commands.specs.declared.who.Who.{Who}
 use Rattle.kd_desk.specs.Drafts.{Draft, applied, drafted, part_with, parts_with}
 use Rattle.kd_commands.specs.State.{Desk}
 use Rattle.kd_commands.specs.Plans.{Plan}
-use Rattle.kd_commands.specs.Leaving.{without_conns}
+use Rattle.kd_commands.specs.Leaving.{without_conns, without_endpoint}
 use Rattle.kd_commands.specs.Names.{with_claim, without_claim}
 use Rattle.kd_commands.specs.Visits.{first_ends}
 use Rattle.kd_commands.specs.Step.{Ended, ended, ended_by, parts_in}
@@ -35,16 +35,15 @@ use Rattle.kd_holds.specs.Handing.{answer_told, answers_told}
 use Rattle.kd_holds.proofs.Telling.{ends_alike}
 use Rattle.kd_holds.specs.Placed.{HasKept, IsSpent, all_kept, pending_kept, offer_placed}
 use Rattle.kd_core.specs.Turned.{becomes, turned}
-use Rattle.kd_core.specs.Running.{may}
-use Rattle.kd_model.proofs.Truth.{left_true, right_true}
+use Rattle.kd_model.proofs.Truth.{right_true}
 
 -- ---- who leaves
 
 -- somebody holds the desk who leaves it
-pub leaves_held : (w : World) (n : ℕ) → IsTrue (may w (leave n)) → w.holder ≡ None → ⊥
-unfolding may legal
+pub leaves_held : (w : World) (n : ℕ) → IsTrue (legal w (leave n)) → w.holder ≡ None → ⊥
+unfolding legal
 leaves_held w n m e =
-    let h = right_true (is_caller n) _ (left_true (legal w (leave n)) true m) in
+    let h = right_true (is_caller n) _ m in
     true≢false (sym (ap (λ (o : Option Holder). elim o [ None ↦ false | Some h ↦ h.caller == n && is_none (next_visit w h) ]) (sym e) ∙ h))
 
 -- ---- what is pending then
@@ -105,7 +104,7 @@ ends_as d h k held has =
 
 -- at most one more id is given
 counts_one : (c : Change) (d : Desk) → (applied c d).next_id ≤ d.next_id + 1
-unfolding applied without_conns with_claim without_claim
+unfolding applied without_conns without_endpoint with_claim without_claim
 counts_one change.Nothing d = omega arith
 counts_one (change.Arrives c b) d = omega arith
 counts_one (change.Leaves id) d = omega arith
@@ -120,6 +119,7 @@ counts_one (change.AddsRule id cookie conditions replace) d = omega arith
 counts_one (change.RemovesRules id cookie) d = omega arith
 counts_one (change.SetsPolicy o entries) d = omega arith
 counts_one (change.AddsEndpoint label number entries) d = omega arith
+counts_one (change.EndsEndpoint e leavers) d = omega arith
 counts_one (change.Passes now) d = omega arith
 
 pub ids_by_one : (d : Desk) (p : Draft) (outs : List Out) → (ended_on d p outs).next.next_id ≤ d.next_id + 1

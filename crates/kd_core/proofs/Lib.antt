@@ -8,3 +8,4 @@ pub mod Stopping
 pub mod Delivered
 pub mod Left
 pub mod Gone
+pub mod Naming

@@ -4,10 +4,10 @@ use Rattle.std.specs.Result.{IsErrAnd}
 use Rattle.std.proofs.Common.{refl, sym, subst, ap, ◌∙◌, arith}
 use Rattle.std.proofs.lemmas.List.{length-append, length-map}
 use Rattle.std.proofs.Math.Seq.{take-append_seam}
-use Rattle.kd_world.specs.Legal.{Event}
+use Rattle.kd_world.specs.Legal.{Event, legal}
 use Rattle.kd_core.specs.declared.events.RunError.{RunError}
 use Rattle.kd_core.specs.declared.events.RunError.TheVariants.{Illegal, OutOfMemory}
-use Rattle.kd_core.specs.Running.{Running, may}
+use Rattle.kd_core.specs.Running.{Running}
 use Rattle.kd_core.specs.Along.{events_before, events_run, first_barred, ran}
 use Rattle.kd_core.proofs.Alongs.{barred_there, map_both}
 
@@ -24,7 +24,7 @@ pub record HaveStopped (r s : Running) (es : List Event) (e : RunError) : Type 0
 
 -- why the next one wasn't
 pub record IsWhy (r : Running) (x : Event) (index : ℕ) (e : RunError) : Type 0 where
-  pub illegal : (n : ℕ) → e ≡ Illegal n → (n ≡ index) × (may r.world x ≡ false)
+  pub illegal : (n : ℕ) → e ≡ Illegal n → (n ≡ index) × (legal r.world x ≡ false)
   pub memory : (n : ℕ) → e ≡ OutOfMemory n → n ≡ index
 
 front : (ys : List Event) (x : Event) (rest : List Event) (n : ℕ) → n ≡ length ys → take n (ys ++ x ∷ rest) ≡ ys
@@ -45,7 +45,7 @@ stopped r s ys x rest index (Illegal n) h i why =
     let place : n ≡ length ys = w.0 ∙ i in
     record {
       run = subst (HaveRun r s) (sym (front ys x rest n place)) h;
-      illegal = λ m same. barred_there r ys x rest h.legal (ap (λ (q : Running). may q.world x) (sym h.world) ∙ w.1) ∙ ap Some (sym place ∙ same_bar n m same);
+      illegal = λ m same. barred_there r ys x rest h.legal (ap (λ (q : Running). legal q.world x) (sym h.world) ∙ w.1) ∙ ap Some (sym place ∙ same_bar n m same);
       memory = λ m same. absurd cc;
     }
 stopped r s ys x rest index (OutOfMemory n) h i why =

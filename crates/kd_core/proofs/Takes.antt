@@ -1,76 +1,38 @@
 -- Taking the desk.
-use Rattle.std.specs.Prelude.{ℕ, Bool, true, false, not, ◌&&◌, List, [], ◌∷◌, Some, None, Result, Ok, Err, IfOk, IsTrue, is_none}
+use Rattle.std.specs.Prelude.{ℕ, Bool, true, false, ◌&&◌, [], Some, None, Result, Ok, Err, IfOk, IsTrue, is_none}
 use Rattle.std.proofs.Common.{◌≡◌, refl, sym, ap, ◌∙◌}
-use Rattle.std.proofs.lemmas.Bool.{true≢false}
-use Rattle.kd_model.proofs.Truth.{left_false, left_true, none_is, not_false, right_true}
+use Rattle.kd_model.proofs.Truth.{left_true, none_is, right_true}
 use Rattle.kd_types.specs.declared.refusal.Refusal.{Refusal}
 use Rattle.kd_types.specs.declared.refusal.Refusal.TheVariants.{NoSuchBus}
-use Rattle.kd_model.specs.Words.{all_of}
-use Rattle.kd_wire.specs.declared.item.WireItem.{WireItem}
-use Rattle.kd_wire.specs.declared.item.WireItem.TheVariants as item
 use Rattle.kd_wire.specs.declared.command.Command.{Command}
-use Rattle.kd_wire.specs.declared.command.Command.TheVariants as cmd
 use Rattle.kd_wire.specs.WellFormed.{is_well_formed}
 use Rattle.kd_commands.specs.declared.who.Who.{Who}
 use Rattle.kd_commands.specs.State.{Desk}
 use Rattle.kd_commands.specs.Plans.{Plan}
 use Rattle.kd_commands.specs.Step.{plan}
-use Rattle.kd_desk.specs.Runs.{answered, is_no_bus, is_not_run, is_not_run_by, is_planned, unsupported}
 use Rattle.kd_desk.specs.Drafts.{Draft, PlanResult, drafted}
 use Rattle.kd_holds.specs.Handing.{AreInOrder}
 use Rattle.kd_holds.proofs.Orders.{plans_are_in_order}
 use Rattle.kd_world.specs.State.{World, caller_at}
-use Rattle.kd_world.specs.Planner.{names_other_bus, is_elsewhere, is_fresh, planned}
+use Rattle.kd_world.specs.Planner.{names_other_bus, is_fresh, planned}
 use Rattle.kd_world.specs.Legal.{take, is_caller, is_for_desk, legal}
 use Rattle.kd_world.specs.Pools.{pools_after, act_of}
 use Rattle.kd_world.specs.Callers.{callers_after}
 use Rattle.kd_world.specs.Step.{holder_by, holder_after, desk_after, step}
 use Rattle.kd_world.specs.Answers.{says, taken_answer}
-use Rattle.kd_core.specs.Running.{may, is_run}
-
-not_so : (a : Bool) → IsTrue (not a) → a ≡ false
-not_so true h = absurd (true≢false (sym h))
-not_so false h = refl
-
--- a command that is run names no bus
-of_this_bus : (is : List WireItem) → IsTrue (all_of is_no_bus is) → is_elsewhere is ≡ false
-of_this_bus [] h = refl
-of_this_bus (item.Bus n ∷ is) h = absurd (true≢false (sym h))
-of_this_bus (i ∷ is) h = of_this_bus is h
-
-names_this_bus : (x : Command) → IsTrue (is_planned x) → names_other_bus x ≡ false
-unfolding is_planned
-names_this_bus (cmd.Hello flags size send_mask receive_mask is) h = of_this_bus is h
-names_this_bus (cmd.EndpointMake is) h = of_this_bus is h
-names_this_bus _ h = refl
-
--- its plan is the desk's
-pub run_as_planned : (d : Desk) (w : Who) (x : Command) → is_not_run d w.member x ≡ false → answered d w x ≡ planned d w x
-unfolding answered planned
-run_as_planned d w x h =
-    let run : IsTrue (is_planned x) = not_false (is_planned x) (left_false (not (is_planned x)) (is_not_run_by d w.member x) h) in
-    ap (λ b. elim b [ true ↦ unsupported x | false ↦ plan d w x ]) h ∙ sym (no_other (is_fresh w.member) (names_other_bus x) (names_this_bus x run) (Err (NoSuchBus 0)) (plan d w x))
-  where
-    no_other : {X : Type 0} (a b : Bool) → b ≡ false → (there here : X) → elim (a && b) [ true ↦ there | false ↦ here ] ≡ here
-    no_other true b e there here = ap (λ c. elim c [ true ↦ there | false ↦ here ]) e
-    no_other false b e there here = refl
 
 -- what may be taken
-pub may_take : (w : World) (n : ℕ) (x : Command) → IsTrue (may w (take n x)) → is_not_run w.desk (caller_at w n).who.member x ≡ false
-unfolding may
-may_take w n x h = not_so (is_not_run w.desk (caller_at w n).who.member x) (right_true (legal w (take n x)) (is_run w (take n x)) h)
+pub takes_form : (w : World) (n : ℕ) (x : Command) → IsTrue (legal w (take n x)) → IsTrue (is_well_formed x)
+unfolding legal
+takes_form w n x h = right_true (is_caller n && is_none w.holder && is_for_desk x) (is_well_formed x) h
 
-pub takes_form : (w : World) (n : ℕ) (x : Command) → IsTrue (may w (take n x)) → IsTrue (is_well_formed x)
-unfolding may legal
-takes_form w n x h = right_true (is_caller n && is_none w.holder && is_for_desk x) (is_well_formed x) (left_true (legal w (take n x)) (is_run w (take n x)) h)
+pub takes_as_caller : (w : World) (n : ℕ) (x : Command) → IsTrue (legal w (take n x)) → IsTrue (is_caller n)
+unfolding legal
+takes_as_caller w n x h = left_true (is_caller n) (is_none w.holder) (left_true (is_caller n && is_none w.holder) (is_for_desk x) (left_true (is_caller n && is_none w.holder && is_for_desk x) (is_well_formed x) h))
 
-pub takes_as_caller : (w : World) (n : ℕ) (x : Command) → IsTrue (may w (take n x)) → IsTrue (is_caller n)
-unfolding may legal
-takes_as_caller w n x h = left_true (is_caller n) (is_none w.holder) (left_true (is_caller n && is_none w.holder) (is_for_desk x) (left_true (is_caller n && is_none w.holder && is_for_desk x) (is_well_formed x) (left_true (legal w (take n x)) (is_run w (take n x)) h)))
-
-pub takes_free_desk : (w : World) (n : ℕ) (x : Command) → IsTrue (may w (take n x)) → w.holder ≡ None
-unfolding may legal
-takes_free_desk w n x h = none_is w.holder (right_true (is_caller n) (is_none w.holder) (left_true (is_caller n && is_none w.holder) (is_for_desk x) (left_true (is_caller n && is_none w.holder && is_for_desk x) (is_well_formed x) (left_true (legal w (take n x)) (is_run w (take n x)) h))))
+pub takes_free_desk : (w : World) (n : ℕ) (x : Command) → IsTrue (legal w (take n x)) → w.holder ≡ None
+unfolding legal
+takes_free_desk w n x h = none_is w.holder (right_true (is_caller n) (is_none w.holder) (left_true (is_caller n && is_none w.holder) (is_for_desk x) (left_true (is_caller n && is_none w.holder && is_for_desk x) (is_well_formed x) h)))
 
 -- a world whose desk was taken
 pub after_taking : (w : World) (n : ℕ) (x : Command) (p : Plan) → planned w.desk (caller_at w n).who x ≡ Ok p

@@ -29,7 +29,7 @@ use Rattle.kd_holds.specs.Counts.{IsBelow}
 use Rattle.kd_core.specs.Held.{IsHeld, IsHeldBy, IsWhole, holder_of, world_of}
 use Rattle.kd_holds.specs.Handing.{HandsOver, IsDrainedBy, Stock, TellDrained, answer_told, answers_told, drain_told, images_of, visit_met}
 use Rattle.kd_holds.specs.Lists.{first_of}
-use Rattle.kd_core.specs.Running.{Running, is_run, may, out_of, said, stepped}
+use Rattle.kd_core.specs.Running.{Running, out_of, said, stepped}
 use Rattle.kd_holds.specs.Visits.{HasVisited, IsReady, IsSameHolder, IsVisited}
 use Rattle.kd_world.specs.State.{World, Holder, closed_pool}
 use Rattle.kd_world.specs.Planner.{parts_planned}
@@ -43,7 +43,7 @@ use Rattle.kd_holds.proofs.Ahead.{seat_with}
 use Rattle.kd_holds.proofs.Telling.{next_told, tells_more, told_more}
 use Rattle.kd_core.proofs.Seen.{held_in, inner}
 use Rattle.kd_holds.proofs.Below.{below_more, below_visit}
-use Rattle.kd_model.proofs.Truth.{left_true, right_true, same_some}
+use Rattle.kd_model.proofs.Truth.{right_true, same_some}
 use Rattle.kd_core.proofs.Wholes.{with_steps}
 
 -- ---- what is left to visit
@@ -138,9 +138,9 @@ the_part : (seat : ℕ) (o : Option Part) → IsTrue (is_part_at seat o) → (q 
 the_part seat None h = absurd (true≢false (sym h))
 the_part seat (Some q) h = (q, refl, h)
 
-pub may_visit : (w : World) (n seat : ℕ) → IsTrue (may w (visit n seat)) → MayVisit w n seat
-unfolding may legal
-may_visit w n seat h = go w.holder refl (right_true (is_caller n) _ (left_true (legal w (visit n seat)) (is_run w (visit n seat)) h))
+pub may_visit : (w : World) (n seat : ℕ) → IsTrue (legal w (visit n seat)) → MayVisit w n seat
+unfolding legal
+may_visit w n seat h = go w.holder refl (right_true (is_caller n) _ h)
   where
     go : (o : Option Holder) → w.holder ≡ o → IsTrue (elim o [ None ↦ false | Some k ↦ k.caller == n && is_part_at seat (next_visit w k) ]) → MayVisit w n seat
     go None e t = absurd (true≢false (sym t))
@@ -184,9 +184,9 @@ held_by : (o : Option holder.Holder) (k : Holder) → option_map holder_of o ≡
 held_by None k e = absurd cc
 held_by (Some h) k e = (h, refl, cc)
 
-pub visiting_in : (w : Inside) (r : Running) (n seat : ℕ) → world_of w ≡ r → IsTrue (may r.world (visit n seat)) → Visiting w n seat
+pub visiting_in : (w : Inside) (r : Running) (n seat : ℕ) → world_of w ≡ r → IsTrue (legal r.world (visit n seat)) → Visiting w n seat
 visiting_in w r n seat v m =
-    let here = may_visit (inner w) n seat (subst (λ (s : Running). IsTrue (may s.world (visit n seat))) (sym v) m) in
+    let here = may_visit (inner w) n seat (subst (λ (s : Running). IsTrue (legal s.world (visit n seat))) (sym v) m) in
     let held = held_by w.holder here.held here.holds in
     record { holder = held.0; part = here.part; holds = held.1; next = ap (next_visit (inner w)) (sym held.2) ∙ here.next; here = here.here }
 
@@ -266,7 +266,7 @@ pub record Visited (w : Inside) (n seat : ℕ) (holds : Option holder.Holder) (p
   pub did : IsVisited meets.part w.pools.items pools out before.holder.made.drained holder.made.drained
 
 pub visited_in :
-    (w : Inside) (r : Running) (n seat : ℕ) (holds : Option holder.Holder) (pools : List Hold) (out : Out) → world_of w ≡ r → IsTrue (may r.world (visit n seat)) → IsWhole w
+    (w : Inside) (r : Running) (n seat : ℕ) (holds : Option holder.Holder) (pools : List Hold) (out : Out) → world_of w ≡ r → IsTrue (legal r.world (visit n seat)) → IsWhole w
     → IsSome holds → ((h : holder.Holder) → w.holder ≡ Some h → IfSome holds (λ k. HasVisited h k out))
     → ((h k : holder.Holder) (p : code.Part) (rest : List code.Part) → w.holder ≡ Some h → holds ≡ Some k → drop (length h.outs.items) h.plan.parts ≡ p ∷ rest → IsVisited p w.pools.items pools out h.made.drained k.made.drained)
     → Visited w n seat holds pools out
@@ -382,7 +382,7 @@ pub record Unvisited (w : Inside) (holds : Option holder.Holder) : Type 0 where
   pub holds_now : holds ≡ Some now
   pub same : IsSameHolder before now
 
-pub unvisited_in : (w : Inside) (r : Running) (n seat : ℕ) (holds : Option holder.Holder) → world_of w ≡ r → IsTrue (may r.world (visit n seat))
+pub unvisited_in : (w : Inside) (r : Running) (n seat : ℕ) (holds : Option holder.Holder) → world_of w ≡ r → IsTrue (legal r.world (visit n seat))
     → IsSome holds → ((h : holder.Holder) → w.holder ≡ Some h → IfSome holds (IsSameHolder h)) → Unvisited w holds
 unvisited_in w r n seat holds v m some same =
     let before = visiting_in w r n seat v m in

@@ -1,5 +1,5 @@
 -- What a world keeps through its events.
-use Rattle.std.proofs.Common.{◌≡◌, ◌≢◌, ◌<◌, ◌≤◌, ◌+◌, ◌*◌, ◌^◌, ℕ, List, [], ◌∷◌, Option, Some, None, Result, Ok, Err, IsTrue, refl, sym, ap, ◌∙◌, subst, arith}
+use Rattle.std.proofs.Common.{◌≡◌, ◌≢◌, ◌<◌, ◌≤◌, ◌+◌, ◌*◌, ◌^◌, ℕ, List, [], ◌∷◌, Option, Some, None, Result, Ok, Err, IsTrue, refl, sym, ap, ◌∙◌, subst, arith, ◌&&◌, true, false}
 use Rattle.std.specs.List.{AllByRecursion}
 use Rattle.kd_types.specs.declared.refusal.Refusal.{Refusal}
 use Rattle.kd_types.specs.declared.refusal.Refusal.TheVariants as why
@@ -11,7 +11,7 @@ use Rattle.kd_desk.specs.declared.part.Out.{Out}
 use Rattle.kd_desk.specs.declared.part.Part as part
 use Rattle.kd_commands.specs.declared.who.Who.{Who}
 use Rattle.kd_model.specs.declared.slice_no.TheConstants.{SLICES}
-use Rattle.kd_desk.specs.Runs.{answered, is_not_run}
+use Rattle.kd_commands.specs.Step.{plan}
 use Rattle.kd_desk.specs.Drafts.{PlanResult, Draft}
 use Rattle.kd_core.specs.declared.event.Answer.TheVariants as answer
 use Rattle.kd_holds.specs.declared.holder.Holder as code
@@ -19,16 +19,16 @@ use Rattle.kd_core.specs.declared.world.World.TheInside.{Inside}
 use Rattle.kd_holds.specs.Counts.{IsBelow}
 use Rattle.kd_holds.specs.Handing.{AreInOrder, IsMadeFor, answers_told}
 use Rattle.kd_world.specs.State.{World, caller_at}
-use Rattle.kd_world.specs.Planner.{planned}
-use Rattle.kd_world.specs.Legal.{take}
+use Rattle.kd_world.specs.Planner.{is_fresh, names_other_bus, planned}
+use Rattle.kd_world.specs.Legal.{take, legal}
 use Rattle.kd_world.specs.Callers.{creds_after}
 use Rattle.kd_world.specs.Answers.{says}
-use Rattle.kd_core.specs.Running.{Running, may, said, stepped}
+use Rattle.kd_core.specs.Running.{Running, said, stepped}
 use Rattle.kd_core.specs.Held.{IsHeld, IsWhole, world_of}
 use Rattle.kd_holds.proofs.Below.{below_more}
 use Rattle.kd_holds.proofs.Telling.{tells_none}
 use Rattle.kd_core.proofs.Seen.{inner}
-use Rattle.kd_core.proofs.Takes.{after_refusing, after_taking, may_take, run_as_planned, says_refused, says_taken, takes_free_desk}
+use Rattle.kd_core.proofs.Takes.{after_refusing, after_taking, says_refused, says_taken, takes_free_desk}
 
 pub more_below : (n : ℕ) (hs : List Hold) → AllByRecursion (IsBelow (SLICES * n)) hs → AllByRecursion (IsBelow (SLICES * (n + 1))) hs
 more_below n hs a = below_more (SLICES * n) (SLICES * (n + 1)) hs (omega arith) a
@@ -63,21 +63,18 @@ abbrev pub with_steps : ℕ → World → Running
 with_steps n w = record { world = w; steps = n }
 
 -- a plan as the world has it
-pub planned_in : (w : Inside) (r : Running) (n : ℕ) (who : Who) (x : Command) (result : Result Draft Refusal) → world_of w ≡ r → who ≡ (caller_at r.world n).who → IsTrue (may r.world (take n x))
-    → PlanResult w.desk (answered w.desk who x) result → PlanResult r.world.desk (planned r.world.desk who x) result
-planned_in w r n who x result e wh m a = subst (λ (s : Running). who ≡ (caller_at s.world n).who → IsTrue (may s.world (take n x)) → PlanResult s.world.desk (planned s.world.desk who x) result) e here wh m
-  where
-    here : who ≡ (caller_at (inner w) n).who → IsTrue (may (inner w) (take n x)) → PlanResult w.desk (planned w.desk who x) result
-    here wh m = subst (λ p. PlanResult w.desk p result) (run_as_planned w.desk who x (ap (λ (u : Who). is_not_run w.desk u.member x) wh ∙ may_take (inner w) n x m)) a
+pub planned_here : (d : Desk) (who : Who) (x : Command) (result : Result Draft Refusal) → (is_fresh who.member && names_other_bus x) ≡ false → PlanResult d (plan d who x) result → PlanResult d (planned d who x) result
+unfolding planned
+planned_here d who x result e p = subst (λ (r : Result Plan Refusal). PlanResult d r result) (sym (ap (λ b. elim b as (λ b. Result Plan Refusal) [ true ↦ Err (why.NoSuchBus 0) | false ↦ plan d who x ]) e)) p
 
 -- a take that was refused
-pub refused_in : (w : Inside) (r : Running) (n : ℕ) (who : Who) (x : Command) (e : Refusal) → world_of w ≡ r → who ≡ (caller_at r.world n).who → IsTrue (may r.world (take n x))
+pub refused_in : (w : Inside) (r : Running) (n : ℕ) (who : Who) (x : Command) (e : Refusal) → world_of w ≡ r → who ≡ (caller_at r.world n).who → IsTrue (legal r.world (take n x))
     → planned r.world.desk who x ≡ Err e → world_of (record w { steps = w.steps + 1 }) ≡ stepped r (take n x)
 unfolding stepped
 refused_in w r n who x e v wh m p =
-    subst (λ (s : Running). who ≡ (caller_at s.world n).who → IsTrue (may s.world (take n x)) → planned s.world.desk who x ≡ Err e → world_of (record w { steps = w.steps + 1 }) ≡ stepped s (take n x)) v here wh m p
+    subst (λ (s : Running). who ≡ (caller_at s.world n).who → IsTrue (legal s.world (take n x)) → planned s.world.desk who x ≡ Err e → world_of (record w { steps = w.steps + 1 }) ≡ stepped s (take n x)) v here wh m p
   where
-    here : who ≡ (caller_at (inner w) n).who → IsTrue (may (inner w) (take n x)) → planned w.desk who x ≡ Err e → world_of (record w { steps = w.steps + 1 }) ≡ stepped (world_of w) (take n x)
+    here : who ≡ (caller_at (inner w) n).who → IsTrue (legal (inner w) (take n x)) → planned w.desk who x ≡ Err e → world_of (record w { steps = w.steps + 1 }) ≡ stepped (world_of w) (take n x)
     here wh m p = ap (with_steps (w.steps + 1)) (sym (after_refusing (inner w) n x e (ap (λ u. planned w.desk u x) (sym wh) ∙ p) (takes_free_desk (inner w) n x m)))
 
 pub refused_said : (w : World) (n : ℕ) (who : Who) (x : Command) (e : Refusal) → who ≡ (caller_at w n).who → planned w.desk who x ≡ Err e → answer.Refused e ≡ said (take n x) (says w (take n x))

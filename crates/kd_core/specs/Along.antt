@@ -4,10 +4,10 @@ use Rattle.kd_core.specs.declared.events.RunError.{RunError}
 use Rattle.kd_core.specs.declared.events.RunError.TheVariants.{Illegal, OutOfMemory}
 use Rattle.kd_core.specs.declared.event.Answer.{Answer}
 use Rattle.kd_world.specs.State.{World}
-use Rattle.kd_world.specs.Legal.{Event}
+use Rattle.kd_world.specs.Legal.{Event, legal}
 use Rattle.kd_world.specs.Step.{step}
 use Rattle.kd_world.specs.Answers.{says}
-use Rattle.kd_core.specs.Running.{Running, may, said, stepped}
+use Rattle.kd_core.specs.Running.{Running, said, stepped}
 
 -- an event that may not happen is the first, else the one behind it
 abbrev pub barred_by : Bool → Option ℕ → Option ℕ
@@ -17,7 +17,7 @@ barred_by true later = option_map (λ n. n + 1) later
 -- the place of the first event that may not happen, those before it run
 unfoldable pub first_barred : World → List Event → Option ℕ
 first_barred w [] = None
-first_barred w (e ∷ es) = barred_by (may w e) (first_barred (step w e) es)
+first_barred w (e ∷ es) = barred_by (legal w e) (first_barred (step w e) es)
 
 -- a world after some events
 unfoldable pub ran : Running → List Event → Running

@@ -2,7 +2,7 @@
 
 -- events and answers of the code, and what is run so far
 pub mod Running
--- plans of commands that are run
+-- what a command comes to
 pub mod Planned
 -- an act at the pool of a seat, among all pools
 pub mod Acting

@@ -1,4 +1,4 @@
--- Plans of commands that are run.
+-- What a command comes to.
 use Rattle.std.specs.Prelude.{Result}
 use Rattle.kd_types.specs.declared.refusal.Refusal.{Refusal}
 use Rattle.kd_wire.specs.declared.command.Command.{Command}

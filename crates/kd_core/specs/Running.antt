@@ -1,11 +1,10 @@
 -- Events and answers of the code, and what is run so far.
-use Rattle.std.specs.Prelude.{ℕ, ◌+◌, Bool, true, not, ◌&&◌}
+use Rattle.std.specs.Prelude.{ℕ, ◌+◌}
 use Rattle.kd_acts.specs.State as pool
 use Rattle.kd_desk.specs.declared.part.Out.{Out}
 use Rattle.kd_desk.specs.declared.part.Out.TheVariants as out
-use Rattle.kd_desk.specs.Runs.{is_not_run}
-use Rattle.kd_world.specs.State.{World, caller_at}
-use Rattle.kd_world.specs.Legal.{Event, take, visit, leave, publishes, receives, reads, frees, legal}
+use Rattle.kd_world.specs.State.{World}
+use Rattle.kd_world.specs.Legal.{Event, take, visit, leave, publishes, receives, reads, frees}
 use Rattle.kd_world.specs.Step.{step}
 use Rattle.kd_world.specs.Answers.{Says, taken, turned_away, left, pool_says}
 use Rattle.kd_core.specs.declared.event.Event as code
@@ -51,15 +50,6 @@ said e (turned_away why) = answer.Refused why
 said e (left reply) = answer.Left reply
 said (visit n seat) (pool_says a) = answer.Visited (out_of a)
 said e (pool_says a) = told_by_pool a
-
--- the command of a take is run so far
-abbrev pub is_run : World → Event → Bool
-is_run w (take n x) = not (is_not_run w.desk (caller_at w n).who.member x)
-is_run w e = true
-
--- an event is run where it is legal, and its command is run so far
-unfoldable pub may : World → Event → Bool
-may w e = legal w e && is_run w e
 
 -- a world after an event
 unfoldable pub stepped : Running → Event → Running

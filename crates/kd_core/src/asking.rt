@@ -1,15 +1,13 @@
 //! What a world tells of itself.
 
 ghost use Rattle.std.specs.Prelude.{◌≡◌, IsTrue};
-ghost use Rattle.kd_core.specs.Running.{is_run};
 ghost use Rattle.kd_world.specs.Whole.{next_publish, next_seat};
 ghost use Rattle.kd_world.specs.State.{caller_at};
-ghost use Rattle.kd_world.specs.Legal.{is_caller, take};
+ghost use Rattle.kd_world.specs.Legal.{is_caller};
 
 use crate::caller::Caller;
 use crate::world::World;
 use kd_types::{Seat, SliceNo};
-use kd_wire::Command;
 
 impl World {
     /// The caller of a number.
@@ -18,14 +16,6 @@ impl World {
         ensures { result.now ≡ caller_at self.now.world number }
     {
         &self.callers[(number - 1) as usize]
-    }
-
-    /// Whether the command is run so far for the caller.
-    pub fn runs(&self, caller: u64, command: &Command) -> bool
-        requires caller { IsTrue (is_caller caller) }
-        ensures { result ≡ is_run self.now.world (take caller command.now) }
-    {
-        self.desk.runs(&self.caller(caller).who, command)
     }
 
     /// The seat of the pool that the holder of the desk visits next; None where nobody holds it, or

@@ -1,8 +1,8 @@
 //! The events of callers that don't need the desk.
 
 ghost use Rattle.std.specs.Prelude.{◌≡◌, ◌<◌, ◌^◌, IfOk, IsTrue};
-ghost use Rattle.kd_core.specs.Running.{may, said, stepped};
-ghost use Rattle.kd_world.specs.Legal.{frees, publishes, reads, receives};
+ghost use Rattle.kd_core.specs.Running.{said, stepped};
+ghost use Rattle.kd_world.specs.Legal.{frees, publishes, reads, receives, legal};
 ghost use Rattle.kd_world.specs.Answers.{says};
 
 use crate::event::Answer;
@@ -13,9 +13,9 @@ use std::alloc::{AllocError, Global};
 
 impl World {
     /// Publishes the caller's oldest message for the seat and number.
-    #[tactic(auto, unfolding(crate::specs::Running::may, kd_world::specs::Legal::legal))]
+    #[tactic(auto, unfolding(kd_world::specs::Legal::legal))]
     pub(crate) fn publish(&mut self, caller: u64, seat: Seat, number: u32) -> Answer
-        requires may { IsTrue (may self.old.world (publishes caller seat number)) }
+        requires may { IsTrue (legal self.old.world (publishes caller seat number)) }
         requires steps { self.old.steps < 2 ^ 54 }
         ensures after { self.new ≡ stepped self.old (publishes caller seat number) }
         ensures answer { result
@@ -27,9 +27,9 @@ impl World {
     }
 
     /// Receives the next message of the caller's pool.
-    #[tactic(auto, unfolding(crate::specs::Running::may, kd_world::specs::Legal::legal))]
+    #[tactic(auto, unfolding(kd_world::specs::Legal::legal))]
     pub(crate) fn receive(&mut self, caller: u64, mode: RecvMode) -> Answer
-        requires may { IsTrue (may self.old.world (receives caller mode)) }
+        requires may { IsTrue (legal self.old.world (receives caller mode)) }
         requires steps { self.old.steps < 2 ^ 54 }
         ensures after { self.new ≡ stepped self.old (receives caller mode) }
         ensures answer { result
@@ -40,7 +40,7 @@ impl World {
     }
 
     /// Reads a slice of the caller's pool, or the share of one.
-    #[tactic(auto, unfolding(crate::specs::Running::may, kd_world::specs::Legal::legal))]
+    #[tactic(auto, unfolding(kd_world::specs::Legal::legal))]
     pub(crate) fn read(
         &self,
         alloc: Global,
@@ -48,7 +48,7 @@ impl World {
         number: u32,
         sealed: bool,
     ) -> Result<Answer, AllocError>
-        requires may { IsTrue (may self.now.world (reads caller number sealed)) }
+        requires may { IsTrue (legal self.now.world (reads caller number sealed)) }
         ensures answer { IfOk result (λ a.
             a
             ≡ said (reads caller number sealed)
@@ -58,9 +58,9 @@ impl World {
     }
 
     /// Frees a slice that the caller received.
-    #[tactic(auto, unfolding(crate::specs::Running::may, kd_world::specs::Legal::legal))]
+    #[tactic(auto, unfolding(kd_world::specs::Legal::legal))]
     pub(crate) fn free(&mut self, caller: u64, number: u32) -> Answer
-        requires may { IsTrue (may self.old.world (frees caller number)) }
+        requires may { IsTrue (legal self.old.world (frees caller number)) }
         requires steps { self.old.steps < 2 ^ 54 }
         ensures after { self.new ≡ stepped self.old (frees caller number) }
         ensures answer { result

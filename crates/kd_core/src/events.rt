@@ -2,13 +2,14 @@
 
 ghost use Rattle.std.specs.Prelude.{◌≡◌, ◌<◌, ◌≤◌, ◌+◌, ◌^◌, ◌∷◌, ◌++◌, [], Err, IfOk, IsNone, None, OnErr, OnOk, Some, false, length, map, true, ℕ};
 ghost use Rattle.kd_core.specs.Along.{events_run, first_barred, ran, said_along};
-ghost use Rattle.kd_core.specs.Running.{event_of, may, said, stepped};
+ghost use Rattle.kd_core.specs.Running.{event_of, said, stepped};
 ghost use Rattle.kd_world.specs.State.{new_world};
 ghost use Rattle.kd_world.specs.Runs.{IsReached};
 ghost use Rattle.kd_world.specs.Answers.{says};
 ghost use Rattle.kd_world.specs.Tie.{IsOffered, IsOfferedSoFar};
 ghost use Rattle.kd_world.specs.Agreed.{HandsAgree};
 ghost use Rattle.kd_pairs.specs.Paired.{IsPairedAlong};
+ghost use Rattle.kd_world.specs.Legal.{legal};
 
 use crate::event::{Answer, Event};
 use crate::world::World;
@@ -17,8 +18,7 @@ use std::alloc::Global;
 /// Why not all events were run.
 #[derive(Clone, Copy, Debug, PartialEq, Eq)]
 pub enum RunError {
-    /// The event at this place, counted from 0, isn't legal where those before it were run, or its
-    /// command isn't run so far.
+    /// The event at this place, counted from 0, isn't legal where those before it were run.
     Illegal { index: u64 },
     /// Memory was wanting at the event at this place; those before it were run.
     OutOfMemory { index: u64 },
@@ -33,14 +33,14 @@ fn run_next(
     index: u64,
 ) -> Result<(), RunError>
     requires steps { world.old.steps < 2 ^ 54 }
-    ensures may { OnOk result (may world.old.world (event_of event) ≡ true) }
+    ensures may { OnOk result (legal world.old.world (event_of event) ≡ true) }
     ensures ok { OnOk result (world.new ≡ stepped world.old (event_of event)) }
     ensures answer { OnOk result (answers.new.items
         ≡ answers.old.items
         ++ said (event_of event) (says world.old.world (event_of event)) ∷ []) }
     ensures err { OnErr result (world.new ≡ world.old) }
     ensures illegal { (n : ℕ) → result ≡ Err (RunError.Illegal n)
-        → (n ≡ index) × (may world.old.world (event_of event) ≡ false) }
+        → (n ≡ index) × (legal world.old.world (event_of event) ≡ false) }
     ensures memory { (n : ℕ) → result ≡ Err (RunError.OutOfMemory n) → n ≡ index }
 {
     if !world.may(&event) {

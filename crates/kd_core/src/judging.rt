@@ -1,7 +1,7 @@
 //! Which events may happen next.
 
 ghost use Rattle.std.specs.Prelude.{◌≡◌, ◌&&◌, IsTrue, is_none, not};
-ghost use Rattle.kd_core.specs.Running.{event_of, may};
+ghost use Rattle.kd_core.specs.Running.{event_of};
 ghost use Rattle.kd_world.specs.Holding.{holds_desk};
 ghost use Rattle.kd_world.specs.Legal.{is_caller, is_for_desk, legal, leave, publishes, take, visit};
 
@@ -30,10 +30,10 @@ fn is_for_desk(command: &Command) -> bool
 }
 
 impl World {
-    /// Whether the event is legal now, and its command is run so far.
-    #[tactic(auto, unfolding(crate::specs::Running::may, kd_world::specs::Legal::legal))]
+    /// Whether the event is legal now.
+    #[tactic(auto, unfolding(kd_world::specs::Legal::legal))]
     pub fn may(&self, event: &Event) -> bool
-        ensures { result ≡ may self.now.world (event_of event.now) }
+        ensures { result ≡ legal self.now.world (event_of event.now) }
     {
         match event {
             Event::Take { caller, command } => self.may_take(*caller, command),
@@ -68,15 +68,14 @@ impl World {
         is_caller(caller) && !self.holds_desk(caller)
     }
 
-    #[tactic(auto, unfolding(crate::specs::Running::may, kd_world::specs::Legal::legal))]
+    #[tactic(auto, unfolding(kd_world::specs::Legal::legal))]
     fn may_take(&self, caller: u64, command: &Command) -> bool
-        ensures { result ≡ may self.now.world (take caller command.now) }
+        ensures { result ≡ legal self.now.world (take caller command.now) }
     {
         is_caller(caller)
             && self.holder.is_none()
             && is_for_desk(command)
             && command.is_well_formed()
-            && self.runs(caller, command)
     }
 
     #[tactic(auto, unfolding(kd_world::specs::Legal::legal))]

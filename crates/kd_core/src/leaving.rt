@@ -6,8 +6,8 @@ ghost use Rattle.kd_desk.specs.Outs.{ended_on};
 ghost use Rattle.kd_holds.specs.declared.holder.Holder as code;
 ghost use Rattle.kd_holds.specs.Placed.{HasKept, IsSpent, all_kept};
 ghost use Rattle.kd_core.specs.Turned.{becomes, turned};
-ghost use Rattle.kd_core.specs.Running.{may, said, stepped};
-ghost use Rattle.kd_world.specs.Legal.{leave};
+ghost use Rattle.kd_core.specs.Running.{said, stepped};
+ghost use Rattle.kd_world.specs.Legal.{leave, legal};
 ghost use Rattle.kd_world.specs.Callers.{hand_after, kind_after};
 ghost use Rattle.kd_world.specs.Answers.{says};
 
@@ -144,9 +144,9 @@ fn end(holder: Holder, desk: &mut Desk, caller: &mut Caller) -> Reply
 impl World {
     /// The holder leaves the desk: its command is ended by what the pools answered, and what it
     /// placed is pending.
-    #[tactic(auto, unfolding(crate::specs::Running::may, kd_world::specs::Legal::legal))]
+    #[tactic(auto, unfolding(kd_world::specs::Legal::legal))]
     pub(crate) fn leave(&mut self, caller: u64) -> Result<Answer, AllocError>
-        requires may { IsTrue (may self.old.world (leave caller)) }
+        requires may { IsTrue (legal self.old.world (leave caller)) }
         requires steps { self.old.steps < 2 ^ 54 }
         ensures ok { OnOk result (self.new ≡ stepped self.old (leave caller)) }
         ensures answer { IfOk result

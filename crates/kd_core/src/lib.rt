@@ -16,6 +16,7 @@
 #![tactic(auto)]
 
 mod asking;
+mod buses;
 mod caller;
 mod delivering;
 mod event;

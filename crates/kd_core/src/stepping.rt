@@ -1,8 +1,8 @@
 //! One event.
 
 ghost use Rattle.std.specs.Prelude.{◌≡◌, ◌<◌, ◌^◌, IfOk, IsTrue, OnErr, OnOk};
-ghost use Rattle.kd_core.specs.Running.{event_of, may, said, stepped};
-ghost use Rattle.kd_world.specs.Legal.{reads};
+ghost use Rattle.kd_core.specs.Running.{event_of, said, stepped};
+ghost use Rattle.kd_world.specs.Legal.{reads, legal};
 ghost use Rattle.kd_world.specs.Runs.{IsReached};
 ghost use Rattle.kd_world.specs.Answers.{says};
 ghost use Rattle.kd_world.specs.Agreed.{HandsAgree, SlicesStay};
@@ -20,7 +20,7 @@ impl World {
         number: u32,
         sealed: bool,
     ) -> Result<Answer, AllocError>
-        requires may { IsTrue (may self.old.world (reads caller number sealed)) }
+        requires may { IsTrue (legal self.old.world (reads caller number sealed)) }
         requires steps { self.old.steps < 2 ^ 54 }
         ensures ok { OnOk result (self.new ≡ stepped self.old (reads caller number sealed)) }
         ensures answer { IfOk result (λ a.
@@ -36,7 +36,7 @@ impl World {
 
     /// Runs an event by its kind.
     fn run(&mut self, alloc: Global, event: Event) -> Result<Answer, AllocError>
-        requires may { IsTrue (may self.old.world (event_of event)) }
+        requires may { IsTrue (legal self.old.world (event_of event)) }
         requires steps { self.old.steps < 2 ^ 54 }
         ensures ok { OnOk result (self.new ≡ stepped self.old (event_of event)) }
         ensures answer { IfOk result
@@ -64,7 +64,7 @@ impl World {
 
     /// Runs an event that may happen now, and answers it. Where memory is wanting nothing changes.
     pub fn step(&mut self, alloc: Global, event: Event) -> Result<Answer, AllocError>
-        requires may { IsTrue (may self.old.world (event_of event)) }
+        requires may { IsTrue (legal self.old.world (event_of event)) }
         requires steps { self.old.steps < 2 ^ 54 }
         ensures ok { OnOk result (self.new ≡ stepped self.old (event_of event)) }
         ensures answer { IfOk result

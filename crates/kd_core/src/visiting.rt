@@ -6,8 +6,8 @@ ghost use Rattle.kd_desk.specs.declared.part.Part as part;
 ghost use Rattle.kd_holds.specs.declared.holder.Holder as code;
 ghost use Rattle.kd_holds.specs.Counts.{IsBelow};
 ghost use Rattle.kd_holds.specs.Visits.{HasVisited, IsReady, IsSameHolder, IsVisited};
-ghost use Rattle.kd_core.specs.Running.{may, said, stepped};
-ghost use Rattle.kd_world.specs.Legal.{visit};
+ghost use Rattle.kd_core.specs.Running.{said, stepped};
+ghost use Rattle.kd_world.specs.Legal.{visit, legal};
 ghost use Rattle.kd_world.specs.Answers.{says};
 
 use crate::event::Answer;
@@ -42,7 +42,7 @@ fn visit_next(holder: &mut Option<Holder>, pools: &mut Vec<Hold>) -> Result<Out,
 impl World {
     /// The holder of the desk visits the pool of its next part, which is at this seat.
     pub(crate) fn visit(&mut self, caller: u64, seat: Seat) -> Result<Answer, AllocError>
-        requires may { IsTrue (may self.old.world (visit caller seat)) }
+        requires may { IsTrue (legal self.old.world (visit caller seat)) }
         requires steps { self.old.steps < 2 ^ 54 }
         ensures ok { OnOk result (self.new ≡ stepped self.old (visit caller seat)) }
         ensures answer { IfOk result

@@ -1,11 +1,12 @@
 use Rattle.std.proofs.Common.{rules, arith, ◌≡◌, ◌≤◌, ◌+◌, ◌^◌, ◌++◌, ◌∷◌, ◌∙◌, [], Err, length, length-append, append_assoc, map, refl, sym, ap}
 use Rattle.std.proofs.lemmas.List.{length-map, map-append}
 use Rattle.kd_world.specs.Answers.{says}
-use Rattle.kd_core.specs.Running.{Running, event_of, may, said, stepped}
+use Rattle.kd_core.specs.Running.{Running, event_of, said, stepped}
 use Rattle.kd_core.specs.Along.{first_barred, ran, said_along}
 use Rattle.kd_core.proofs.Alongs.{legal_more, ran_more, said_more, steps_along}
 use Rattle.kd_core.proofs.Stopping.{HaveStopped, stopped_by, stopped_in}
 use Rattle.kd_core.proofs.events.run_all.Goals as goal
+use Rattle.kd_world.specs.Legal.{legal}
 
 pub events-init : goal.events-init
 unfolding first_barred ran said_along
@@ -86,7 +87,7 @@ events-preserved c =
       o.answer ∙ ap (λ xs. xs ++ said (event_of e) (says c.events.world.world (event_of e)) ∷ []) i.1 ∙ ap (λ a. said_along r.world (map event_of ys) ++ a ∷ []) answer
           ∙ sym (said_more r (map event_of ys) (event_of e)) ∙ ap (said_along r.world) (sym one_more),
       record {
-        legal = ap (first_barred r.world) one_more ∙ legal_more r (map event_of ys) (event_of e) i.2.legal (ap (λ (s : Running). may s.world (event_of e)) (sym i.2.world) ∙ o.may);
+        legal = ap (first_barred r.world) one_more ∙ legal_more r (map event_of ys) (event_of e) i.2.legal (ap (λ (s : Running). legal s.world (event_of e)) (sym i.2.world) ∙ o.may);
         world = o.ok ∙ ap (λ (s : Running). stepped s (event_of e)) i.2.world ∙ sym (ran_more r (map event_of ys) (event_of e)) ∙ ap (ran r) (sym one_more);
       },
       append_assoc ys (e ∷ []) rest ∙ ap (ys ++◌) (sym c.in-Some.ensures.steps.0) ∙ i.3,

@@ -3,7 +3,7 @@ use Rattle.std.proofs.Common.{◌≡◌, ◌<◌, ◌-◌, ◌^◌, length, refl
 use Rattle.std.proofs.lemmas.List.{get_or_read, length-set}
 use Rattle.kd_world.specs.State.{caller_at, stranger}
 use Rattle.kd_world.specs.Legal.{legal}
-use Rattle.kd_core.specs.Running.{Running, may}
+use Rattle.kd_core.specs.Running.{Running}
 use Rattle.kd_core.proofs.Gone.{fits_in, holding_in, left_said, left_so, whole_left}
 use Rattle.kd_core.proofs.Seen.{inner}
 use Rattle.kd_core.proofs.world.World.leave.Goals as goal
@@ -24,7 +24,7 @@ invariant_of-self-2 c =
     (subst (λ (r : Running). r.steps < 2 ^ 54) (sym c.self.view_is) c.requires.steps) c.self.invariant
 
 pub returns-clause-ok : goal.returns-clause-ok
-unfolding may legal
+unfolding legal
 returns-clause-ok c =
     let inside : c.args.caller - 1 < length c.self.inside.callers.items = search rules in
     let at : c.index_mut-me.result.now ≡ caller_at (inner c.self.inside) c.args.caller = get_or_read c.self.inside.callers.items (c.args.caller - 1) c.index_mut-me.result.now inside c.index_mut-me.ensures.value stranger in

@@ -1,14 +1,18 @@
-use Rattle.kd_core.proofs.Takes.{orders, takes_form}
-use Rattle.kd_core.proofs.Wholes.{planned_in}
+-- The desk's plan, unless another bus is named.
+use Rattle.std.proofs.Common.{◌∙◌, subst, sym}
+use Rattle.kd_desk.specs.Drafts.{PlanResult}
+use Rattle.kd_world.specs.Planner.{planned}
+use Rattle.kd_core.specs.Running.{Running}
+use Rattle.kd_core.proofs.Takes.{orders}
+use Rattle.kd_core.proofs.Wholes.{planned_here}
 use Rattle.kd_core.proofs.world.World.planned.Goals as goal
 
-pub plan-requires-clause-form : goal.plan-requires-clause-form
-plan-requires-clause-form c = takes_form c.args.self.now.world c.args.caller c.args.command c.requires.may
-
 pub returns-clause-planned : goal.returns-clause-planned
-returns-clause-planned c = planned_in c.self.inside c.args.self.now c.args.caller c.args.who.now c.args.command c.plan.result c.self.view_is c.requires.who c.requires.may c.plan.ensures
+returns-clause-planned c =
+    let here = planned_here c.self.inside.desk c.args.who.now c.args.command c.plan.result (sym c.is_astray.ensures ∙ c.if-is_astray.false) c.plan.ensures in
+    subst (λ (r : Running). PlanResult r.world.desk (planned r.world.desk c.args.who.now c.args.command) c.plan.result) c.self.view_is here
 
 pub returns-clause-order : goal.returns-clause-order
 returns-clause-order c =
-    orders c.args.self.now.world.desk c.args.who.now c.args.command c.plan.result (takes_form c.args.self.now.world c.args.caller c.args.command c.requires.may)
-    (planned_in c.self.inside c.args.self.now c.args.caller c.args.who.now c.args.command c.plan.result c.self.view_is c.requires.who c.requires.may c.plan.ensures)
+    orders c.self.inside.desk c.args.who.now c.args.command c.plan.result c.requires.form
+    (planned_here c.self.inside.desk c.args.who.now c.args.command c.plan.result (sym c.is_astray.ensures ∙ c.if-is_astray.false) c.plan.ensures)

@@ -4,7 +4,7 @@ use Rattle.std.proofs.lemmas.List.{get_or_read, length-set}
 use Rattle.kd_world.specs.State.{caller_at, stranger}
 use Rattle.kd_world.specs.Legal.{legal, publishes}
 use Rattle.kd_world.specs.Answers.{says}
-use Rattle.kd_core.specs.Running.{Running, may, said, stepped}
+use Rattle.kd_core.specs.Running.{Running, said, stepped}
 use Rattle.kd_core.proofs.Seen.{inner}
 use Rattle.kd_core.proofs.Delivered.{quiet_publish, publish_moves, publish_says, whole_after}
 use Rattle.kd_core.proofs.world.World.publish.Goals as goal
@@ -14,14 +14,14 @@ invariant_of-self c =
     whole_after c.self.inside _ _ (quiet_publish _) refl refl c.publish.ensures.pools (length-set c.self.inside.callers.items (c.args.caller - 1) c.publish.new.self) refl (subst (λ (r : Running). r.steps < 2 ^ 54) (sym c.self.view_is) c.requires.steps) c.self.invariant
 
 pub returns-clause-after : goal.returns-clause-after
-unfolding may legal
+unfolding legal
 returns-clause-after c =
     let inside : c.args.caller - 1 < length c.self.inside.callers.items = search rules in
     let at : c.index_mut.result.now ≡ caller_at (inner c.self.inside) c.args.caller = get_or_read c.self.inside.callers.items (c.args.caller - 1) c.index_mut.result.now inside c.index_mut.ensures.value stranger in
     publish_moves (inner c.self.inside) c.self.inside.steps c.args.caller c.args.seat c.args.number _ _ _ at c.publish.ensures.pools c.publish.ensures.caller ∙ ap (λ (r : Running). stepped r (publishes c.args.caller c.args.seat c.args.number)) c.self.view_is
 
 pub returns-clause-answer : goal.returns-clause-answer
-unfolding may legal
+unfolding legal
 returns-clause-answer c =
     let inside : c.args.caller - 1 < length c.self.inside.callers.items = search rules in
     let at : c.index_mut.result.now ≡ caller_at (inner c.self.inside) c.args.caller = get_or_read c.self.inside.callers.items (c.args.caller - 1) c.index_mut.result.now inside c.index_mut.ensures.value stranger in

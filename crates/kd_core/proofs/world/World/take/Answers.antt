@@ -3,12 +3,15 @@ use Rattle.kd_types.specs.declared.refusal.Refusal.TheVariants as why
 use Rattle.kd_desk.specs.Drafts.{drafted}
 use Rattle.kd_world.specs.State.{Caller}
 use Rattle.kd_core.specs.Running.{Running}
-use Rattle.kd_core.proofs.Takes.{takes_as_caller}
+use Rattle.kd_core.proofs.Takes.{takes_as_caller, takes_form}
 use Rattle.kd_core.proofs.Wholes.{newly_held, refusal_is, refused_in, refused_said, taken_in, taken_said, whole_held, whole_later}
 use Rattle.kd_core.proofs.world.World.take.Goals as goal
 
 pub caller-requires : goal.caller-requires
 caller-requires c = record { caller = takes_as_caller c.args.self.now.world c.args.caller c.args.command c.requires.may }
+
+pub planned-requires : goal.planned-requires
+planned-requires c = record { form = takes_form c.args.self.now.world c.args.caller c.args.command c.requires.may }
 
 pub invariant_of-self : goal.invariant_of-self
 invariant_of-self c = whole_later c.self.inside c.self.invariant (subst (λ (r : Running). r.steps < 2 ^ 54) (sym c.self.view_is) c.requires.steps)
