@@ -1,5 +1,5 @@
 -- What a read command may be run as.
-use Rattle.std.proofs.Common.{◌≡◌, ℕ, zero, suc, ◌≤◌, Bool, true, false, ◌&&◌, List, [], ◌∷◌, Option, Some, None, Result, Ok, Err, OnOk, refl, sym, ap, ◌∙◌, arith}
+use Rattle.std.proofs.Common.{◌≡◌, ℕ, zero, suc, ◌≤◌, Bool, true, false, ◌&&◌, List, [], ◌∷◌, Result, Ok, Err, OnOk, refl, sym, ap, ◌∙◌, arith}
 use Rattle.std.specs.Prelude.{is_none, nat_le, ℤ}
 use Rattle.std.specs.Int.{w64, cast_unsigned}
 use Rattle.std.proofs.lemmas.Bool.{ltb-false}
@@ -17,7 +17,6 @@ use Rattle.kd_wire.specs.WellFormed.{is_well_formed}
 use Rattle.kd_wire.proofs.Parts.{flawless}
 use Rattle.kd_world.specs.State.{World}
 use Rattle.kd_world.specs.Legal.{receives, reads, frees, is_caller, legal}
-use Rattle.kd_core.specs.Running.{may}
 use Rattle.kd_replay.specs.Turns.{IsReady, mode_of}
 use Rattle.kd_replay.proofs.Publishes.{nobody}
 
@@ -41,16 +40,16 @@ one_way flags limit e =
     let f = flawless opcodes.Recv flags.0 words [] none in
     not_both flags.0 (ltb-false 7 flags.0 f.known) f.within
 
-pub receive_may : (w : World) (n : ℕ) (x : Command) (flags : RecvFlags) (limit other : ℤ) → is_caller n ≡ true → IsReady w → is_well_formed x ≡ true → x ≡ cmd.Recv flags limit → may w (receives n (mode_of flags other)) ≡ true
-unfolding may legal
+pub receive_may : (w : World) (n : ℕ) (x : Command) (flags : RecvFlags) (limit other : ℤ) → is_caller n ≡ true → IsReady w → is_well_formed x ≡ true → x ≡ cmd.Recv flags limit → legal w (receives n (mode_of flags other)) ≡ true
+unfolding legal
 receive_may w n x flags limit other c r form is = rw (c, nobody w n r.free, one_way flags limit (sym (ap is_well_formed is) ∙ form)) refl
 
-pub read_may : (w : World) (n number : ℕ) (sealed : Bool) → is_caller n ≡ true → IsReady w → may w (reads n number sealed) ≡ true
-unfolding may legal
+pub read_may : (w : World) (n number : ℕ) (sealed : Bool) → is_caller n ≡ true → IsReady w → legal w (reads n number sealed) ≡ true
+unfolding legal
 read_may w n number sealed c r = rw (c, nobody w n r.free) refl
 
-pub free_may : (w : World) (n number : ℕ) → is_caller n ≡ true → IsReady w → may w (frees n number) ≡ true
-unfolding may legal
+pub free_may : (w : World) (n number : ℕ) → is_caller n ≡ true → IsReady w → legal w (frees n number) ≡ true
+unfolding legal
 free_may w n number c r = rw (c, nobody w n r.free) refl
 
 -- what holds holds where a call went well

@@ -1,7 +1,6 @@
 -- Frames have one transcript.
-use Rattle.std.proofs.Common.{◌≡◌, ℕ, ◌≤◌, ◌<◌, ◌^◌, inl, inr, true, leb, List, [], ◌∷◌, ◌++◌, Option, Some, None, sym, ap, subst, ◌∙◌, arith}
+use Rattle.std.proofs.Common.{◌≡◌, ℕ, ◌≤◌, ◌<◌, ◌^◌, inl, inr, true, leb, List, [], ◌∷◌, ◌++◌, Some, None, sym, ap, subst, ◌∙◌, arith}
 use Rattle.std.proofs.lemmas.Bool.{leb-true}
-use Rattle.kd_types.specs.declared.refusal.Refusal.{Refusal}
 use Rattle.kd_model.proofs.Truth.{both_true, same_some}
 use Rattle.kd_wire.specs.declared.port.Port.TheVariants.{Replay}
 use Rattle.kd_wire.specs.Ports.{takes_caller}
@@ -38,4 +37,4 @@ one_answer w (f ∷ fs) a b m n (t, more, turn, is, rest) (u, others, second, ar
     is ∙ ap (λ (x : Turn). reply_bytes f x.reply ++ more) same ∙ ap (λ (l : List ℕ). reply_bytes f u.reply ++ l) behind ∙ sym are
 
 pub one_transcript : (fs : List (List ℕ)) (a b : List ℕ) → IsTranscript fs a → IsTranscript fs b → a ≡ b
-one_transcript fs a b (m, h) (n, k) = one_answer replay_world fs a b m n h k
+one_transcript fs a b (m, h, run) (n, k, again) = one_answer replay_world fs a b m n h k

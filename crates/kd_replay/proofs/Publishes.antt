@@ -12,7 +12,6 @@ use Rattle.kd_world.specs.Legal.{publishes, is_caller, legal}
 use Rattle.kd_world.specs.Callers.{callers_after, has_published, with_caller, without_first}
 use Rattle.kd_world.specs.Step.{step}
 use Rattle.kd_world.specs.Whole.{next_publish, pending_count, publish_place, published, publishings}
-use Rattle.kd_core.specs.Running.{may}
 use Rattle.kd_replay.specs.Turns.{IsReady}
 use Rattle.kd_replay.proofs.Holding.{ready_behind_publish}
 
@@ -47,8 +46,8 @@ at_most n e = leb-true n 64 (both_true (leb 1 n) (leb n 64) e).1
 pub nobody : (w : World) (n : ℕ) → w.holder ≡ None → holds_desk w n ≡ false
 nobody w n e = rw e refl
 
-pub publish_may : (w : World) (n s k : ℕ) → is_caller n ≡ true → IsReady w → next_publish w n ≡ Some (s, k) → may w (publishes n s k) ≡ true
-unfolding may legal
+pub publish_may : (w : World) (n s k : ℕ) → is_caller n ≡ true → IsReady w → next_publish w n ≡ Some (s, k) → legal w (publishes n s k) ≡ true
+unfolding legal
 publish_may w n s k c r e =
     let o = oldest (caller_at w n).pendings s k e in
     rw (c, nobody w n r.free, o.there) refl

@@ -1,5 +1,5 @@
 -- What the code's answers are replied as is what the answers of events are.
-use Rattle.std.specs.Prelude.{◌≡◌, ℕ, ℤ, Bool, refl, IfOk, Result, Ok, Err}
+use Rattle.std.specs.Prelude.{◌≡◌, ℕ, ℤ, Bool, refl}
 use Rattle.std.proofs.Common.{sym, ap, ◌∙◌}
 use Rattle.kd_types.specs.declared.flags.RecvFlags.{RecvFlags}
 use Rattle.kd_wire.specs.declared.command.Command.{Command}

@@ -14,7 +14,7 @@ use Rattle.kd_world.specs.Legal.{take, is_caller, is_for_desk, legal}
 use Rattle.kd_world.specs.Step.{holder_by, holder_after, step}
 use Rattle.kd_world.specs.Answers.{taken_answer, says}
 use Rattle.kd_world.specs.Whole.{Whole, alone, left_and_published, visits_run, whole}
-use Rattle.kd_core.specs.Running.{may, said, is_run}
+use Rattle.kd_core.specs.Running.{said}
 use Rattle.kd_replay.specs.Turns.{IsReady, reply_of}
 use Rattle.kd_replay.specs.Answering.{reply_with}
 use Rattle.kd_replay.proofs.Replies.{take_replied}
@@ -38,7 +38,7 @@ pub answer_of : (w : World) (n : ℕ) (x : Command) (r : Result Plan Refusal) �
 unfolding says
 answer_of w n x r e = rw e refl
 
-holder_of : (w : World) (n : ℕ) (x : Command) (r : Result Plan Refusal) → r ≡ plan_of w n x → (step w (take n x)).holder ≡ holder_by n (caller_at w n).who x r
+pub holder_of : (w : World) (n : ℕ) (x : Command) (r : Result Plan Refusal) → r ≡ plan_of w n x → (step w (take n x)).holder ≡ holder_by n (caller_at w n).who x r
 unfolding holder_after
 holder_of w n x r e = rw e refl
 
@@ -68,6 +68,6 @@ in_by w n x (Ok p) is never =
 pub taken : (w : World) (n : ℕ) (x : Command) → ((why : Refusal) → said (take n x) (says w (take n x)) ≡ answer.Refused why → ⊥) → IsIn w n x
 taken w n x never = in_by w n x (plan_of w n x) refl never
 
-pub take_may : (w : World) (n : ℕ) (x : Command) → is_caller n ≡ true → IsReady w → is_for_desk x ≡ true → is_well_formed x ≡ true → is_run w (take n x) ≡ true → may w (take n x) ≡ true
-unfolding may legal
-take_may w n x c r desk form run = rw (c, r.free, desk, form, run) refl
+pub take_may : (w : World) (n : ℕ) (x : Command) → is_caller n ≡ true → IsReady w → is_for_desk x ≡ true → is_well_formed x ≡ true → legal w (take n x) ≡ true
+unfolding legal
+take_may w n x c r desk form = rw (c, r.free, desk, form) refl

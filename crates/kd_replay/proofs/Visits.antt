@@ -12,7 +12,6 @@ use Rattle.kd_world.specs.Legal.{visit, leave, is_caller, is_part_at, legal}
 use Rattle.kd_world.specs.Pools.{pool_answer}
 use Rattle.kd_world.specs.Step.{holder_after, desk_after, step}
 use Rattle.kd_world.specs.Whole.{next_seat, part_count, visits, visits_run}
-use Rattle.kd_core.specs.Running.{may}
 use Rattle.kd_model.proofs.Truth.{no_some}
 use Rattle.kd_world.proofs.Tied.{of}
 use Rattle.kd_replay.proofs.Holding.{callers_stay}
@@ -50,10 +49,10 @@ seat_of_part w h s (Some p) is e =
 pub record IsVisited (w : World) (n s : ℕ) : Type 0 where
   pub fewer : remaining (step w (visit n s)) + 1 ≡ remaining w
   pub holds : holds_desk (step w (visit n s)) n ≡ true
-  pub may : is_caller n ≡ true → may w (visit n s) ≡ true
+  pub may : is_caller n ≡ true → legal w (visit n s) ≡ true
 
 one_visit : (d : Desk) (o : Option Holder) (pools : List Hold) (callers : List Caller) (n s : ℕ) → next_seat (of d o pools callers) ≡ Some s → holds_desk (of d o pools callers) n ≡ true → IsVisited (of d o pools callers) n s
-unfolding may legal holder_after desk_after
+unfolding legal holder_after desk_after
 one_visit d None pools callers n s e h = absurd (no_some e)
 one_visit d (Some holder) pools callers n s e h =
     let w : World = of d (Some holder) pools callers in
@@ -104,8 +103,8 @@ no_part : (w : World) (h : Holder) (o : Option Part) → o ≡ next_visit w h �
 no_part w h None is e = sym is
 no_part w h (Some p) is e = absurd cc
 
-one_leave : (d : Desk) (o : Option Holder) (pools : List Hold) (callers : List Caller) (n : ℕ) → next_seat (of d o pools callers) ≡ None → holds_desk (of d o pools callers) n ≡ true → is_caller n ≡ true → may (of d o pools callers) (leave n) ≡ true
-unfolding may legal
+one_leave : (d : Desk) (o : Option Holder) (pools : List Hold) (callers : List Caller) (n : ℕ) → next_seat (of d o pools callers) ≡ None → holds_desk (of d o pools callers) n ≡ true → is_caller n ≡ true → legal (of d o pools callers) (leave n) ≡ true
+unfolding legal
 one_leave d None pools callers n e h c = absurd cc
 one_leave d (Some holder) pools callers n e h c =
     let w : World = of d (Some holder) pools callers in
@@ -113,5 +112,5 @@ one_leave d (Some holder) pools callers n e h c =
     rw (c, h, x) refl
 
 -- behind all visits the holder may leave
-pub leave_may : (w : World) (n : ℕ) → next_seat w ≡ None → holds_desk w n ≡ true → is_caller n ≡ true → may w (leave n) ≡ true
+pub leave_may : (w : World) (n : ℕ) → next_seat w ≡ None → holds_desk w n ≡ true → is_caller n ≡ true → legal w (leave n) ≡ true
 leave_may w n e h c = one_leave w.desk w.holder w.pools w.callers n e h c

@@ -12,6 +12,7 @@ use Rattle.kd_world.specs.State.{World}
 use Rattle.kd_replay.specs.Turns.{Turn, replay_world}
 use Rattle.kd_replay.specs.Frames.{IsFrame, IsCut, joined}
 use Rattle.kd_replay.specs.Transcript.{IsTurn, reply_bytes, Answered, WritesFront}
+use Rattle.kd_replay.proofs.Legal.{frames_reach}
 
 pub answered_more : (w : World) (fs : List (List ℕ)) (written : List ℕ) (mid : World) (f : List ℕ) (t : Turn) → Answered w fs written mid → IsTurn mid f t
     → Answered w (fs ++ f ∷ []) (written ++ reply_bytes f t.reply) t.next
@@ -56,7 +57,7 @@ stands_first bytes a = record { frames = []; written = []; cut = record { parts 
 pub all_written : (bytes rest : List ℕ) (at : ℕ) (a b : Option (List ℕ)) (now : World) → Stands bytes rest at a b now → WritesFront bytes a b
 all_written bytes rest at a b now s =
     let all : take (length s.written) s.written ≡ s.written = take_all (length s.written) s.written (omega arith) in
-    (s.frames, rest, s.written, length s.written, s.cut, (now, s.answered), rw all s.held)
+    (s.frames, rest, s.written, length s.written, s.cut, (now, s.answered, frames_reach s.frames s.written now s.answered), rw all s.held)
 
 -- and of the reply to one frame more
 pub some_written : (bytes rest : List ℕ) (at n k : ℕ) (a b c : Option (List ℕ)) (now : World) (t : Turn) → Stands bytes rest at a b now → IsFrame (take n rest) → IsTurn now (take n rest) t
@@ -70,7 +71,8 @@ some_written bytes rest at n k a b c now t s frame turn more =
       s.written ++ last,
       length s.written + k,
       cut_more bytes s.frames rest n s.cut frame,
-      (t.next, answered_more replay_world s.frames s.written now f t s.answered turn),
+      (let more : Answered replay_world (s.frames ++ f ∷ []) (s.written ++ last) t.next = answered_more replay_world s.frames s.written now f t s.answered turn in
+          (t.next, more, frames_reach (s.frames ++ f ∷ []) (s.written ++ last) t.next more)),
       rw front (appends_more a b c s.written (take k last) s.held more),
     )
 

@@ -4,6 +4,8 @@
 pub mod Frames
 -- * what a command of a frame comes to
 pub mod Turns
+-- * the events that a frame is run by, and what they tell
+pub mod Events
 -- * what a replay writes, and how it ends
 pub mod Transcript
 -- what the code's answers are replied as

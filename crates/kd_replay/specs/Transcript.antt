@@ -14,6 +14,7 @@ use Rattle.kd_world.specs.State.{World}
 use Rattle.kd_world.specs.Legal.{Event}
 use Rattle.kd_world.specs.Runs.{all_legal, world_after}
 use Rattle.kd_replay.specs.Turns.{Turn, replay_world, refused, turn}
+use Rattle.kd_replay.specs.Events.{IsRunBy, events_of}
 use Rattle.kd_replay.specs.Frames.{HasNoFrame, IsCut, IsRead, joined}
 
 -- a frame that breaks the format gets its refusal
@@ -40,13 +41,35 @@ Answered w (f ∷ fs) written end =
     (t : Turn) × (more : List ℕ) × IsTurn w f t × (written ≡ reply_bytes f t.reply ++ more)
     × Answered t.next fs more end
 
--- the replies to frames from the opening of the bus
-abbrev pub IsTranscript : List (List ℕ) → List ℕ → Type 0
-IsTranscript frames written = (end : World) × Answered replay_world frames written end
+-- a frame is run by these events: by none where it breaks the format, else by those of its command,
+-- which are legal, end in the world behind it, and tell its reply
+abbrev pub IsFrameRun : World → List ℕ → List Event → Turn → Type 0
+IsFrameRun w frame es t =
+    (IsRefused w frame t × (es ≡ []))
+    ⊎ ((caller : ℕ) × (command : Command) × IsRead frame caller command
+    × (t ≡ turn w caller command) × (es ≡ events_of w caller command)
+    × IsRunBy w es (t.reply ∷ []) t.next)
 
--- some legal events lead from one world to another
-abbrev pub IsLedTo : World → World → Type 0
-IsLedTo w end = (es : List Event) × (all_legal w es ≡ true) × (end ≡ world_after w es)
+-- frame after frame
+abbrev pub AreRunBy : World → List (List ℕ) → List Event → World → Type 0
+AreRunBy w [] es end = (es ≡ []) × (end ≡ w)
+AreRunBy w (f ∷ fs) es end =
+    (t : Turn) × (own more : List Event) × IsFrameRun w f own t × (es ≡ own ++ more)
+    × AreRunBy t.next fs more end
+
+-- events that are legal one after the other lead from one world to another
+pub record Ends (w : World) (es : List Event) (end : World) : Type 0 where
+  pub legal : all_legal w es ≡ true
+  pub ends : end ≡ world_after w es
+
+-- frames are run by legal events
+abbrev pub AreRun : World → List (List ℕ) → World → Type 0
+AreRun w frames end = (es : List Event) × AreRunBy w frames es end × Ends w es end
+
+-- the replies to frames from the opening of the bus, which legal events tell
+abbrev pub IsTranscript : List (List ℕ) → List ℕ → Type 0
+IsTranscript frames written =
+    (end : World) × Answered replay_world frames written end × AreRun replay_world frames end
 
 -- a front of the replies to the first frames was written
 abbrev pub WritesFront : List ℕ → Option (List ℕ) → Option (List ℕ) → Type 0

@@ -2,21 +2,18 @@
 use Rattle.std.specs.Prelude.{◌≡◌, ℕ, length, min, Some, None, if◌then◌else◌, ℤ}
 use Rattle.kd_types.specs.declared.flags.RecvFlags.{RecvFlags}
 use Rattle.kd_types.specs.declared.refusal.Refusal.{Refusal}
-use Rattle.kd_types.specs.declared.refusal.Refusal.TheVariants.{Unsupported, WrongState}
+use Rattle.kd_types.specs.declared.refusal.Refusal.TheVariants.{WrongState}
 use Rattle.kd_types.specs.Flags.{has_bits}
 use Rattle.kd_wire.specs.declared.command.Command.{Command}
 use Rattle.kd_wire.specs.declared.command.Command.TheVariants as cmd
 use Rattle.kd_wire.specs.declared.reply.Reply.{Reply}
 use Rattle.kd_wire.specs.declared.reply.Reply.TheVariants as reply
-use Rattle.kd_wire.specs.Opcodes.{opcode_number}
-use Rattle.kd_wire.specs.Commands.{opcode_in}
 use Rattle.kd_acts.specs.declared.receive.RecvMode.{RecvMode}
 use Rattle.kd_acts.specs.State as pool
 use Rattle.kd_world.specs.State.{World, new_world}
-use Rattle.kd_world.specs.Legal.{take, receives, reads, frees}
+use Rattle.kd_world.specs.Legal.{receives, reads, frees}
 use Rattle.kd_world.specs.Answers.{Says, turned_away, left, pool_says}
 use Rattle.kd_world.specs.Whole.{Whole, alone, whole}
-use Rattle.kd_core.specs.Running.{is_run}
 
 -- the bus of a replay: made by the user 1000, with filters of 64 bytes and 8 hashes
 abbrev pub replay_world : World
@@ -57,18 +54,12 @@ mode_of flags limit = record {
   limit = if has_bits flags.0 4 then Some limit else None;
 }
 
--- a command that isn't run yet changes nothing
-unfoldable pub at_desk : World → ℕ → Command → Turn
-at_desk w n x =
-    if is_run w (take n x) then replied (whole w n x)
-    else refused w (Unsupported (opcode_number (opcode_in x)))
-
 -- receives, reads and frees are one event, and any other command is run whole at the desk
 unfoldable pub turn : World → ℕ → Command → Turn
 turn w n (cmd.Recv flags limit) = replied (alone w (receives n (mode_of flags limit)))
 turn w n (cmd.Read sealed number) = replied (alone w (reads n (slice_number number) sealed))
 turn w n (cmd.Free number) = replied (alone w (frees n (slice_number number)))
-turn w n x = at_desk w n x
+turn w n x = replied (whole w n x)
 
 -- nobody holds the desk, and there are 64 callers
 pub record IsReady (w : World) : Type 0 where

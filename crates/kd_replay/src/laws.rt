@@ -3,7 +3,7 @@
 ghost use Rattle.std.specs.Prelude.{◌≡◌, ℕ, List};
 ghost use Rattle.kd_world.specs.State.{World};
 ghost use Rattle.kd_replay.specs.Turns.{Turn, replay_world};
-ghost use Rattle.kd_replay.specs.Transcript.{Answered, IsLedTo, IsTranscript, IsTurn};
+ghost use Rattle.kd_replay.specs.Transcript.{Answered, AreRun, IsTranscript, IsTurn};
 
 /// What a frame comes to is determined by the world and the frame.
 pub fn a_frame_has_one_turn()
@@ -17,8 +17,9 @@ pub fn frames_have_one_transcript()
         → IsTranscript frames other → written ≡ other }
 {}
 
-/// A run over frames is a run of legal events, so what is proved of every list of them holds of it.
+/// A run over frames is a run of legal events, which end in its world and tell its replies; so what
+/// is proved of every list of them holds of it.
 pub fn frames_are_run_by_legal_events()
     ensures { (frames : List (List ℕ)) (written : List ℕ) (end : World)
-        → Answered replay_world frames written end → IsLedTo replay_world end }
+        → Answered replay_world frames written end → AreRun replay_world frames end }
 {}

@@ -38,7 +38,8 @@ fn open(alloc: Global) -> Result<World, AllocError>
 /// stands, and earlier only where the sink fails or memory is wanting.
 pub fn replay_frames<K: Sink>(alloc: Global, bytes: &[u8], sink: &mut K) -> Status
     requires { length bytes.now ≤ 16777216 }
-    // The replies are those of the transcript of the frames, or a front of them.
+    // The replies are those of the transcript of the frames, or a front of them: the frames are run
+    // by events that are legal one after the other and tell these replies.
     ensures answers { ReplayResult bytes.now (K.held sink.old) (K.held sink.new) result }
     ensures fault { result ≡ Status.WriteFault → Rose (K.faults sink.old) (K.faults sink.new) }
     ensures later { K.faults sink.old ≤ K.faults sink.new }

@@ -6,12 +6,12 @@ ghost use Rattle.kd_wire.specs.Commands.{opcode_in};
 ghost use Rattle.kd_wire.specs.WellFormed.{is_well_formed};
 ghost use Rattle.kd_wire.specs.declared.port.Port.TheVariants.{Replay};
 ghost use Rattle.kd_world.specs.Holding.{holds_desk};
-ghost use Rattle.kd_world.specs.Legal.{is_caller, is_for_desk, publishes, take};
+ghost use Rattle.kd_world.specs.Legal.{is_caller, is_for_desk, legal, publishes};
 ghost use Rattle.kd_world.specs.Step.{step};
 ghost use Rattle.kd_world.specs.Answers.{says};
 ghost use Rattle.kd_world.specs.Whole.{next_seat, published, visits_run, whole};
-ghost use Rattle.kd_core.specs.Running.{event_of, may, said};
-ghost use Rattle.kd_replay.specs.Turns.{at_desk, mode_of, reply_of, slice_number, turn, IsReady};
+ghost use Rattle.kd_core.specs.Running.{event_of, said};
+ghost use Rattle.kd_replay.specs.Turns.{mode_of, reply_of, slice_number, turn, IsReady};
 ghost use Rattle.kd_replay.specs.Answering.{reply_with};
 
 use kd_core::{Answer, Event, World};
@@ -30,7 +30,7 @@ const GREATEST: u64 = 4_294_967_295;
 /// wanting.
 #[tactic(auto, unfolding(kd_core::specs::Running::stepped))]
 fn step(world: &mut World, alloc: Global, event: Event) -> Result<Answer, AllocError>
-    requires { IsTrue (may world.old.world (event_of event)) }
+    requires { IsTrue (legal world.old.world (event_of event)) }
     ensures next { OnOk result (world.new.world ≡ step world.old.world (event_of event)) }
     ensures answer { IfOk result (λ a. a ≡ said (event_of event) (says world.old.world (event_of event))) }
 {
@@ -42,7 +42,7 @@ fn step(world: &mut World, alloc: Global, event: Event) -> Result<Answer, AllocE
 
 /// One event whose answer no reply tells.
 fn advance(world: &mut World, alloc: Global, event: Event) -> Result<(), AllocError>
-    requires { IsTrue (may world.old.world (event_of event)) }
+    requires { IsTrue (legal world.old.world (event_of event)) }
     ensures { OnOk result (world.new.world ≡ step world.old.world (event_of event)) }
 {
     step(world, alloc, event)?;
@@ -118,7 +118,8 @@ fn run_at_desk(
     command: Command,
 ) -> Result<Reply, AllocError>
     requires caller { IsTrue (is_caller caller) }
-    requires may { IsTrue (may world.old.world (take caller command)) }
+    requires desk { IsTrue (is_for_desk command) }
+    requires form { IsTrue (is_well_formed command) }
     requires ready { IsReady world.old.world }
     ensures next { OnOk result (world.new.world ≡ (whole world.old.world caller command).next) }
     ensures reply { IfOk result (λ r. r ≡ reply_of (whole world.old.world caller command).answer) }
@@ -136,7 +137,7 @@ fn run_at_desk(
 
 /// Runs an event that is a frame's only one.
 fn run_alone(world: &mut World, alloc: Global, event: Event) -> Result<Reply, AllocError>
-    requires { IsTrue (may world.old.world (event_of event)) }
+    requires { IsTrue (legal world.old.world (event_of event)) }
     ensures next { OnOk result (world.new.world ≡ step world.old.world (event_of event)) }
     ensures reply { IfOk result
         (λ r. r ≡ reply_with (said (event_of event) (says world.old.world (event_of event)))) }
@@ -161,31 +162,6 @@ fn slice_number(number: u64) -> u32
     ensures { result ≡ slice_number number }
 {
     number.min(GREATEST) as u32
-}
-
-/// Runs a command at the desk, unless it isn't run yet.
-#[tactic(auto, unfolding(crate::specs::Turns::at_desk))]
-fn run_or_refuse(
-    world: &mut World,
-    alloc: Global,
-    caller: u64,
-    command: Command,
-) -> Result<Reply, AllocError>
-    requires caller { IsTrue (is_caller caller) }
-    requires desk { IsTrue (is_for_desk command) }
-    requires form { IsTrue (is_well_formed command) }
-    requires ready { IsReady world.old.world }
-    ensures next { OnOk result (world.new.world ≡ (at_desk world.old.world caller command).next) }
-    ensures reply { IfOk result (λ r. r ≡ (at_desk world.old.world caller command).reply) }
-    ensures ready { OnOk result (IsReady world.new.world) }
-{
-    if world.runs(caller, &command) {
-        run_at_desk(world, alloc, caller, command)
-    } else {
-        Ok(Reply::Refused(Refusal::Unsupported {
-            cmd: command.opcode().number(),
-        }))
-    }
 }
 
 /// Runs a command of a caller whole, with nothing between its events.
@@ -225,6 +201,6 @@ pub fn run(
             let number = slice_number(number);
             run_alone(world, alloc, Event::Free { caller, number })
         }
-        command => run_or_refuse(world, alloc, caller, command),
+        command => run_at_desk(world, alloc, caller, command),
     }
 }

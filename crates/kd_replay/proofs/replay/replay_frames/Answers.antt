@@ -1,8 +1,10 @@
-use Rattle.std.proofs.Common.{◌≡◌, ℕ, List, [], take, refl, sym, subst, ◌∙◌}
+use Rattle.std.proofs.Common.{◌≡◌, ◌==◌, ℕ, List, [], ap, length, take, refl, sym, subst, ◌∙◌}
+use Rattle.std.proofs.lemmas.Bool.{true≢false}
 use Rattle.kd_replay.specs.Frames.{IsCut}
 use Rattle.std.proofs.lemmas.List.{length-take-le}
 use Rattle.kd_replay.specs.Transcript.{IsTurn, reply_bytes}
 use Rattle.kd_replay.proofs.Written.{nothing_left, stands_first, all_written, some_written, one_more}
+use Rattle.kd_replay.proofs.Legal.{frames_reach}
 use Rattle.kd_replay.proofs.replay.replay_frames.Goals as goal
 
 pub returns-in_default-clause-answers : goal.returns-in_default-clause-answers
@@ -36,4 +38,10 @@ pub returns-then-is_empty-clause-answers : goal.returns-then-is_empty-clause-ans
 returns-then-is_empty-clause-answers g c =
     let i = c.frames.invariant.0 in
     let none : c.frames.rest.now ≡ [] = nothing_left c.frames.rest.now (sym c.if-is_empty.ensures) in
-    (i.frames, subst (IsCut c.args.bytes.now i.frames) none i.cut, (i.written, (c.frames.world.world, i.answered), i.held))
+    (i.frames, subst (IsCut c.args.bytes.now i.frames) none i.cut, (i.written, (c.frames.world.world, i.answered, frames_reach i.frames i.written c.frames.world.world i.answered), i.held))
+
+pub returns-clause-answers : goal.returns-clause-answers
+returns-clause-answers g c =
+    let i = c.frames.invariant.0 in
+    let some : c.frames.rest.now ≡ [] → ⊥ = λ e. true≢false (sym (ap (λ (r : List ℕ). length r == 0) e) ∙ sym c.if-is_empty.ensures) in
+    (i.frames, c.frames.rest.now, i.cut, some, c.in_default-frame_size.ensures.none, i.place, (i.written, (c.frames.world.world, i.answered, frames_reach i.frames i.written c.frames.world.world i.answered), i.held))

@@ -1,9 +1,8 @@
 use Rattle.std.proofs.Common.{◌≡◌, true, ◌∙◌, sym, ap, subst, arith}
 use Rattle.kd_world.specs.State.{World}
-use Rattle.kd_world.specs.Legal.{Event}
+use Rattle.kd_world.specs.Legal.{Event, legal}
 use Rattle.kd_world.specs.Step.{step}
 use Rattle.kd_world.specs.Whole.{pending_count}
-use Rattle.kd_core.specs.Running.{may}
 use Rattle.kd_replay.proofs.Publishes.{Publishing, publishing_first, publishing_more, publishing_ends, publish_may, one_fewer}
 use Rattle.kd_replay.proofs.running.publish.Goals as goal
 
@@ -12,7 +11,7 @@ pendings-init c = publishing_first c.args.world.now.world c.args.caller c.requir
 
 pub advance-requires : goal.advance-requires
 advance-requires c =
-    subst (λ (e : Event). may c.pendings.world.world e ≡ true) (sym c.publishing.ensures)
+    subst (λ (e : Event). legal c.pendings.world.world e ≡ true) (sym c.publishing.ensures)
     (publish_may c.pendings.world.world c.args.caller c.in-Some.place.0 c.in-Some.place.1 c.requires.caller c.pendings.invariant.ready (sym c.next_publish.ensures ∙ c.in-Some.is))
 
 pub pendings-preserved : goal.pendings-preserved

@@ -1,7 +1,6 @@
 use Rattle.std.proofs.Common.{rules, ◌≡◌, true, sym, subst, ◌∙◌}
 use Rattle.kd_acts.specs.declared.receive.RecvMode.{RecvMode}
-use Rattle.kd_world.specs.Legal.{receives}
-use Rattle.kd_core.specs.Running.{may}
+use Rattle.kd_world.specs.Legal.{receives, legal}
 use Rattle.kd_replay.specs.Turns.{IsReady, mode_of}
 use Rattle.kd_replay.proofs.Holding.{ready_behind_receive, ready_behind_read, ready_behind_free}
 use Rattle.kd_replay.proofs.Modes.{receive_may, read_may, free_may, then_ok}
@@ -11,7 +10,7 @@ use Rattle.kd_replay.proofs.running.run.Goals as goal
 
 pub run_alone-requires : goal.run_alone-requires
 run_alone-requires c =
-    subst (λ (m : RecvMode). may c.args.world.now.world (receives c.args.caller m) ≡ true) (sym c.mode_of-mode.ensures)
+    subst (λ (m : RecvMode). legal c.args.world.now.world (receives c.args.caller m) ≡ true) (sym c.mode_of-mode.ensures)
     (receive_may c.args.world.now.world c.args.caller c.args.command c.in-Recv.flags c.in-Recv.limit _ c.requires.caller c.requires.ready c.requires.form c.in-Recv.is)
 
 pub run_alone-requires-in-Read : goal.run_alone-requires-in-Read

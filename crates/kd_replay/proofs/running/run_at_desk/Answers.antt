@@ -9,9 +9,12 @@ use Rattle.kd_replay.specs.Turns.{IsReady, reply_of}
 use Rattle.kd_replay.specs.Answering.{reply_with}
 use Rattle.kd_replay.proofs.Holding.{callers_stay, free_behind_leave}
 use Rattle.kd_replay.proofs.Replies.{leave_replied}
-use Rattle.kd_replay.proofs.Takes.{turned_away, taken}
+use Rattle.kd_replay.proofs.Takes.{taken, take_may, turned_away}
 use Rattle.kd_replay.proofs.Visits.{leave_may}
 use Rattle.kd_replay.proofs.running.run_at_desk.Goals as goal
+
+pub step-requires : goal.step-requires
+step-requires c = take_may c.args.world.now.world c.args.caller c.args.command c.requires.caller c.requires.ready c.requires.desk c.requires.form
 
 pub returns-in-Refused-clause-next : goal.returns-in-Refused-clause-next
 returns-in-Refused-clause-next c =
