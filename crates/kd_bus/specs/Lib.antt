@@ -10,11 +10,5 @@ pub mod Sight
 pub mod Turned
 -- what a caller is at its desk
 pub mod Members
--- what the holder of the desk tells of its visits
-pub mod Visited
--- what a command needs before its first visit
-pub mod Ready
--- what a command tells
-pub mod Leaving
 -- what a slot has come to when all its passes came back
 pub mod Closing

@@ -17,8 +17,6 @@
 //! - `conn`, `member`: what a caller is, with its hand
 //! - `publishing`, `receiving`, `releasing`: the calls on one pool
 //! - `closing`: all passes come back, and the desk and the pools come out
-//! - `preparing`, `visiting`, `pendings`: what a command needs, the visits of its plan, and what
-//!   they leave to be published
 #![tactic(auto)]
 
 mod bus;
@@ -26,13 +24,10 @@ mod closing;
 mod conn;
 mod locked;
 mod member;
-mod pendings;
-mod preparing;
 mod publishing;
 mod receiving;
 mod releasing;
 mod slip;
-mod visiting;
 
 pub use bus::{Bus, BusPass};
 pub use closing::Closed;
