@@ -1,0 +1,9 @@
+pub mod Bodies
+pub mod Outcomes
+pub mod EventItems
+pub mod Fronts
+pub mod Alike
+pub mod Runs
+pub mod Refusals
+pub mod Checks
+pub mod OneReading

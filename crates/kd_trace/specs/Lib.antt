@@ -1,0 +1,14 @@
+-- In reading order. A reader has to believe those marked *.
+
+-- * the items of a trace, each with its one spelling
+pub mod Items
+-- * which bytes are a trace, and where others break
+pub mod Trace
+-- * which traces are right
+pub mod Right
+-- events and answers as they are read
+pub mod Reading
+-- what a reader finds at the front of bytes
+pub mod Fronts
+-- what a checker keeps of a run so far
+pub mod Judging

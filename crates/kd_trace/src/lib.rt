@@ -1,0 +1,30 @@
+//! Traces: runs that are written down event by event, each with what it was answered, and a checker
+//! that tells whether such a run was legal and was answered as it had to be.
+//!
+//! ```text
+//!   byte 0
+//!   +----------------+----------+-----------+----------+-----------+----------+--
+//!   | TAKE 1         | PLAIN    | VISIT     | SLICE    | LEAVE     | LEFT     |  ..
+//!   | 1, frame       | Taken    | 1, seat 0 | 0        | 1         | reply    |
+//!   +----------------+----------+-----------+----------+-----------+----------+--
+//!     pair 0                      pair 1                 pair 2
+//! ```
+//!
+//! `specs/` says which bytes are a trace and which traces are right; [`check_trace`] judges bytes by
+//! it.
+#![tactic(auto)]
+
+mod checking;
+mod comparing;
+mod event_items;
+mod judging;
+mod laws;
+mod outcome;
+mod outcome_items;
+mod pairs;
+mod verdict;
+
+pub use checking::check_trace;
+pub use laws::{a_trace_has_one_reading, a_trace_has_one_verdict, what_breaks_is_no_trace};
+pub use outcome::Outcome;
+pub use verdict::{TraceError, Verdict};
