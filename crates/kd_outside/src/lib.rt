@@ -35,7 +35,7 @@ pub use moments::ListClock;
 pub use service::{Binder, Clock, Listener};
 pub use shelf::MemSink;
 pub use socket::{UnixLink, UnixListen};
-pub use spawners::{Finished, InTurn, OsThreads, Work};
+pub use spawners::{Finished, InTurn, Join, OsThreads, Started, Work, start_thread};
 pub use streams::{StdSink, StdSource};
 pub use system_clock::SysClock;
 pub use tape::MemSource;

@@ -1,13 +1,13 @@
 //! What runs jobs: one after the other where they are started, or each in a thread of the system.
 
-ghost use Rattle.std.specs.Prelude.{◌≡◌, ◌↔◌, ℕ, if◌then◌else◌, IsTrue, IsErr, IfOk};
+ghost use Rattle.std.specs.Prelude.{◌≡◌, ◌↔◌, ⊤, if◌then◌else◌, IsTrue, IsErr, IfOk};
 ghost use Rattle.kd_outside.specs.Causes.{HasCause};
 ghost use Rattle.kd_outside.specs.Memory.{Calls as CallsValue, no_calls, fails_next, with_call, with_fault};
 
 use crate::calls::Calls;
 use crate::traits::Failed;
 use crate::work::{Job, Spawner};
-use std::marker::Model;
+use std::marker::{Model, PhantomData};
 use std::snapshot::Snapshot;
 use std::sync::Wait;
 use std::thread;
@@ -57,6 +57,8 @@ impl<J: Job + Drop> Spawner<J> for InTurn {
     ghost faults = { λ s. s.faults };
 
     ghost started = { λ run. run.0 };
+
+    ghost can_start = { λ _. ⊤ };
 
     /// Does the work once; fails at the calls that were named, and at no other.
     fn start<R: Threads + Wait>(&mut self, rt: &R, job: J) -> Result<Finished<J>, Failed>
@@ -108,56 +110,99 @@ fn done<J: Job, H: Wait>(job: J, handle: &H) -> J
     job
 }
 
+/// A job that a thread of its own does. A contract sees it as it was when it was started.
+#[derive(Drop)]
+pub struct Started<J: Job> {
+    run: PromisedHandle<J, Work<J>>,
+}
+
+impl<J: Job> Model for Started<J> {
+    ghost Value = { J };
+
+    ghost view = { λ s. s.run.promise.0.value };
+}
+
+/// What waits for a job that was started.
+pub trait Join<J: Job> {
+    /// The job as it was when it was started.
+    ghost begun: { Self → J };
+
+    /// The job after its work. It waits until the work is done.
+    fn join<R: Threads>(self, rt: &R) -> J
+        ensures worked { J.works (begun self) result };
+}
+
+impl<J: Job> Join<J> for Started<J> {
+    ghost begun = { λ s. s };
+
+    fn join<R: Threads>(self, rt: &R) -> J
+        ensures worked { J.works self result }
+    {
+        let Started { run } = self;
+        run.join(rt)
+    }
+}
+
 /// A thread that does the job's work and waits by this handle, if the system gives one.
-fn start_thread<J: Job + Drop + Send + 'static, H: Wait + Copy + Send + 'static, R: Threads>(
+pub fn start_thread<J: Job + Drop + Send + 'static, H: Wait + Copy + Send + 'static, R: Threads>(
     rt: &R,
     handle: H,
     job: J,
-) -> Result<PromisedHandle<J, Work<J>>, Failed>
-    ensures { IfOk result (λ run. run.promise.0.value ≡ job) }
+) -> Result<Started<J>, Failed>
+    ensures { IfOk result (λ run. run ≡ job) }
 {
     let promise = Work(Snapshot::of(&job));
     match thread::spawn_with(rt, promise, move || done(job, &handle)) {
-        Ok(run) => Ok(run),
+        Ok(run) => Ok(Started { run }),
         Err(_) => Err(Failed),
     }
 }
 
-/// What starts a thread of the system for each job, whose handle the thread waits by. A contract
-/// sees how often that has failed.
+/// What starts a thread of the system for each job, by the closure that it was made of. A contract
+/// sees that closure and how often it has failed.
 ///
-/// It has the calls of a [`Spawner`] with their clauses, and isn't one: an impl for any job can't
-/// say yet that the job may go to a thread.
+/// The closure is written where it is known that the job may go to a thread, which an impl for any
+/// job can't say: `OsThreads::make(|job: Task| start_thread(&rt, rt, job))`.
 #[derive(Drop)]
-pub struct OsThreads<H> {
-    handle: H,
+pub struct OsThreads<F, T> {
+    launch: F,
     faults: u64,
+    thread: PhantomData<T>,
 }
 
-impl<H> Model for OsThreads<H> {
-    ghost Value = { ℕ };
-
-    ghost view = { λ s. s.faults };
-}
-
-impl<H: Wait + Copy + Send + 'static> OsThreads<H> {
+impl<F, T> OsThreads<F, T> {
     /// It started nothing yet.
-    pub fn make(handle: H) -> OsThreads<H>
-        ensures { result ≡ 0 }
+    pub fn make(launch: F) -> OsThreads<F, T>
+        ensures launch { result.launch ≡ launch }
+        ensures faults { result.faults ≡ 0 }
     {
-        OsThreads { handle, faults: 0 }
+        OsThreads {
+            launch,
+            faults: 0,
+            thread: PhantomData,
+        }
     }
+}
+
+impl<J: Job, T: Join<J>, F: Fn(J) -> Result<T, Failed>> Spawner<J> for OsThreads<F, T> {
+    type Run = T;
+
+    ghost faults = { λ s. s.faults };
+
+    ghost started = { λ run. T.begun run };
+
+    ghost can_start = { λ s. ((j : J) → F.pre s.launch j)
+        × ((j : J) (r : _) → F.post s.launch j r → IfOk r (λ run. T.begun run ≡ j)) };
 
     /// Starts a thread that does the work; fails where the system gives none.
-    pub fn start<J: Job + Drop + Send + 'static, R: Threads>(
-        &mut self,
-        rt: &R,
-        job: J,
-    ) -> Result<PromisedHandle<J, Work<J>>, Failed>
-        ensures cause { HasCause self.old self.new result }
-        ensures started { IfOk result (λ run. run.promise.0.value ≡ job) }
+    fn start<R: Threads + Wait>(&mut self, _rt: &R, job: J) -> Result<T, Failed>
+        requires { ((j : J) → F.pre self.old.launch j)
+            × ((j : J) (r : _) → F.post self.old.launch j r → IfOk r (λ run. T.begun run ≡ j)) }
+        ensures cause { HasCause self.old.faults self.new.faults result }
+        ensures launch { self.new.launch ≡ self.old.launch }
+        ensures started { IfOk result (λ run. T.begun run ≡ job) }
     {
-        let Ok(run) = start_thread(rt, self.handle, job) else {
+        let Ok(run) = (self.launch)(job) else {
             self.faults = self.faults.saturating_add(1);
             return Err(Failed);
         };
@@ -165,13 +210,9 @@ impl<H: Wait + Copy + Send + 'static> OsThreads<H> {
     }
 
     /// Joins the thread.
-    pub fn wait<J: Job + Drop + Send + 'static, R: Threads>(
-        &mut self,
-        rt: &R,
-        run: PromisedHandle<J, Work<J>>,
-    ) -> J
-        ensures worked { J.works run.promise.0.value result }
-        ensures faults { self.new ≡ self.old }
+    fn wait<R: Threads + Wait>(&mut self, rt: &R, run: T) -> J
+        ensures worked { J.works (T.begun run) result }
+        ensures kept { self.new ≡ self.old }
     {
         run.join(rt)
     }

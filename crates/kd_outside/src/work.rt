@@ -29,13 +29,19 @@ pub trait Spawner<J: Job> {
     /// The job as it was when it was started.
     ghost started: { Self.Run → J };
 
+    /// What it takes to start any job. Each call keeps it.
+    ghost can_start: { Self → Type 0 };
+
     /// Runs the job beside the caller. Where it fails, the job is dropped.
     fn start<R: Threads + Wait>(&mut self, rt: &R, job: J) -> Result<Self::Run, Failed>
+        requires { can_start self.old }
+        ensures can_start { can_start self.new }
         ensures cause { HasCause (faults self.old) (faults self.new) result }
         ensures started { IfOk result (λ run. started run ≡ job) };
 
     /// The job after its work. It waits until the work is done.
     fn wait<R: Threads + Wait>(&mut self, rt: &R, run: Self::Run) -> J
+        ensures can_start { can_start self.old → can_start self.new }
         ensures worked { J.works (started run) result }
         ensures faults { faults self.new ≡ faults self.old };
 }
