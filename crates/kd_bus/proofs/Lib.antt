@@ -1,4 +1,13 @@
 pub mod Alone
 pub mod Kept
 pub mod Opening
+pub mod Owed
+pub mod Holding
+pub mod Walked
+pub mod Going
+pub mod Placing
+pub mod Planned
+pub mod Refusals
+pub mod Left
+pub mod Belonging
 pub mod Closings

@@ -8,7 +8,15 @@ pub mod Values
 pub mod Sight
 -- what a call on one pool tells
 pub mod Turned
--- what a caller is at its desk
+-- what a caller is, at its desk and after a command
 pub mod Members
+-- what the holder of the desk tells of its visits
+pub mod Visited
+-- what a command needs before its first visit
+pub mod Ready
+-- what is told where the desk is left
+pub mod Leaving
+-- what a command tells
+pub mod Commands
 -- what a slot has come to when all its passes came back
 pub mod Closing

@@ -1,10 +1,11 @@
 -- What a slip says.
 use Rattle.std.specs.Prelude.{ℕ, List, [], slice_index}
+use Rattle.kd_wire.specs.declared.reply.Reply.TheVariants as reply
 use Rattle.kd_acts.specs.State.{by_desk, publish, receive}
-use Rattle.kd_desk.specs.Drafts.{content_at, part_with}
-use Rattle.kd_desk.specs.Outs.{answers_of, out_answer}
+use Rattle.kd_desk.specs.Drafts.{content_at}
 use Rattle.kd_histories.specs.Pools.{marked_numbers}
 use Rattle.kd_pool.specs.Told.{receive_answer}
+use Rattle.kd_holds.specs.Handing.{answer_told, answers_told, visit_met}
 use Rattle.kd_holds.specs.Publishing.{publish_answer}
 use Rattle.kd_histories.specs.Turns.{Turn, did, left, idle}
 use Rattle.kd_bus.specs.declared.slip.Note.{Note}
@@ -22,16 +23,29 @@ turn_told (note.Left l) =
       aim = l.aim.value;
       who = l.who.value;
       command = l.command.value;
-      outs = answers_of l.outs.value.items;
+      outs = answers_told l.plan.value.parts l.outs.value.items l.made.value.drained;
       reply = l.reply.value;
+      becomes = l.becomes.value;
+    })
+turn_told (note.Refused l) =
+    left (record {
+      generation = l.generation.value;
+      aim = l.aim.value;
+      who = l.who.value;
+      command = l.command.value;
+      outs = [];
+      reply = reply.Refused l.why.value;
       becomes = l.becomes.value;
     })
 turn_told (note.Visited x) =
     did (record {
       generation = x.generation.value;
       freed = marked_numbers (words_in x.marks.value);
-      act = by_desk (part_with (content_at x.index.value x.plan.value.contents) x.part.value).act;
-      answer = out_answer x.out.value;
+      act =
+          by_desk
+          (visit_met (content_at x.index.value x.plan.value.contents) x.part.value
+          x.made.value.drained);
+      answer = answer_told x.part.value x.out.value x.made.value.drained;
     })
 turn_told (note.Published p) =
     did (record {

@@ -1,5 +1,5 @@
 //! The bus and its passes.
-ghost use Rattle.std.specs.Prelude.{◌≡◌, ℕ, suc, ◌<◌, ◌≤◌, List, [], None, All, IfOk, length, map};
+ghost use Rattle.std.specs.Prelude.{◌≡◌, ℕ, suc, ◌<◌, ◌≤◌, List, [], None, Some, ◌%◌, All, IfOk, length, map};
 ghost use mathlib.Core.Option.{some};
 ghost use lib.ListN.{get_elem?};
 ghost use Rattle.kd_turn.specs.Sight.{Sight};
@@ -65,6 +65,15 @@ impl BusPass {
         ensures { result ≡ self.now.view.turns }
     {
         self.pass.turns()
+    }
+
+    /// Its next HELLO or ENDPOINT_MAKE is for the slot's bus of this generation; where another one
+    /// is there, or none, that command is `NoSuchBus`.
+    pub fn aim(&mut self, generation: u64)
+        requires { generation % 2 ≡ 1 }
+        ensures { self.new ≡ record self.old { aim = Some generation } }
+    {
+        self.aim = Some(generation);
     }
 }
 

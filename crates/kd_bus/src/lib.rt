@@ -6,6 +6,7 @@
 //!   desk      pool of     pool of    ..   pool of
 //!             seat 0      seat 1          seat 63
 //!
+//!   command              a turn on the desk and, while it is held, one on the pool of each visit
 //!   publish, receive     a turn on the pool of the seat
 //!   release              one step on the seat's mark words, which waits for nobody
 //! ```
@@ -17,17 +18,24 @@
 //! - `conn`, `member`: what a caller is, with its hand
 //! - `publishing`, `receiving`, `releasing`: the calls on one pool
 //! - `closing`: all passes come back, and the desk and the pools come out
+//! - `command`: a pass gives a command; `preparing`, `visiting`, `pendings`, `leaving`: what it
+//!   needs, the visits of its plan, what these leave to be published, and how the desk is left
 #![tactic(auto)]
 
 mod bus;
 mod closing;
+mod command;
 mod conn;
+mod leaving;
 mod locked;
 mod member;
+mod pendings;
+mod preparing;
 mod publishing;
 mod receiving;
 mod releasing;
 mod slip;
+mod visiting;
 
 pub use bus::{Bus, BusPass};
 pub use closing::Closed;

@@ -1,23 +1,24 @@
 //! What an entry of a lock's list says. It is there in the proofs alone, and takes no memory.
 ghost use Rattle.std.specs.Prelude.{◌≡◌, []};
 ghost use Rattle.kd_acts.specs.State.{by_desk, publish, receive};
-ghost use Rattle.kd_desk.specs.Drafts.{content_at, part_with};
-ghost use Rattle.kd_desk.specs.Outs.{answers_of, out_answer};
+ghost use Rattle.kd_desk.specs.Drafts.{content_at};
 ghost use Rattle.kd_pool.specs.Told.{receive_answer};
+ghost use Rattle.kd_holds.specs.Handing.{answer_told, answers_told, visit_met};
 ghost use Rattle.kd_holds.specs.Publishing as publishing;
 ghost use Rattle.kd_histories.specs.Pools.{marked_numbers};
 ghost use Rattle.kd_histories.specs.Turns.{did, idle, left};
+ghost use Rattle.kd_wire.specs.declared.reply.Reply as reply;
 ghost use Rattle.kd_bus.specs.Slips.{turn_told, words_in};
 
 use kd_desk::{Out, Part, Plan, Who, WhoKind};
-use kd_holds::{Pending, Published};
+use kd_holds::{Made, Pending, Published};
 use kd_pool::{Got, RecvMode};
 use kd_types::Refusal;
 use kd_wire::{Command, Reply};
 use std::marker::Model;
 use std::snapshot::Snapshot;
 
-/// A command that left the desk of the slot's bus of a generation, or was refused by it.
+/// A command that was carried out at the desk of the slot's bus of a generation.
 #[derive(Drop)]
 pub struct Leaving {
     pub generation: Snapshot<u64>,
@@ -25,13 +26,26 @@ pub struct Leaving {
     pub aim: Snapshot<Option<u64>>,
     pub who: Snapshot<Who>,
     pub command: Snapshot<Command>,
+    pub plan: Snapshot<Plan>,
+    pub made: Snapshot<Made>,
     pub outs: Snapshot<Vec<Out>>,
     pub reply: Snapshot<Reply>,
     pub becomes: Snapshot<WhoKind>,
 }
 
+/// A command that the desk of the slot's bus of a generation refused, from who stays what it was.
+#[derive(Drop)]
+pub struct Refusing {
+    pub generation: Snapshot<u64>,
+    pub aim: Snapshot<Option<u64>>,
+    pub who: Snapshot<Who>,
+    pub command: Snapshot<Command>,
+    pub why: Snapshot<Refusal>,
+    pub becomes: Snapshot<WhoKind>,
+}
+
 /// A visit of a pool of a generation by the holder of the desk: the marks that it swept, the part
-/// at its place of the plan, and what the pool answered.
+/// at its place of the plan, what the pool answered, and what was drained then.
 #[derive(Drop)]
 pub struct Visiting {
     pub generation: Snapshot<u64>,
@@ -39,6 +53,7 @@ pub struct Visiting {
     pub part: Snapshot<Part>,
     pub plan: Snapshot<Plan>,
     pub index: Snapshot<usize>,
+    pub made: Snapshot<Made>,
     pub out: Snapshot<Out>,
 }
 
@@ -70,6 +85,7 @@ pub struct Given {
 #[derive(Drop)]
 pub enum Note {
     Left(Leaving),
+    Refused(Refusing),
     Visited(Visiting),
     Published(Publishing),
     Received(Receiving),
@@ -108,10 +124,35 @@ impl Slip {
         Slip::of(Note::Idle)
     }
 
-    /// The entry of a command.
+    /// The entry of a command that was refused.
+    pub(crate) fn refused(generation: u64, given: Given, why: &Refusal, was: &WhoKind) -> Slip
+        ensures { result
+            ≡ left (record {
+              generation = generation;
+              aim = given.aim.value;
+              who = given.who.value;
+              command = given.command.value;
+              outs = [];
+              reply = reply.Reply.Refused why.now;
+              becomes = was.now;
+            }) }
+    {
+        Slip::of(Note::Refused(Refusing {
+            generation: Snapshot::of(&generation),
+            aim: given.aim,
+            who: given.who,
+            command: given.command,
+            why: Snapshot::of(why),
+            becomes: Snapshot::of(was),
+        }))
+    }
+
+    /// The entry of a command that was carried out.
     pub(crate) fn left(
         generation: u64,
         given: Given,
+        plan: Snapshot<Plan>,
+        made: &Made,
         outs: &Vec<Out>,
         reply: &Reply,
         becomes: &WhoKind,
@@ -122,7 +163,7 @@ impl Slip {
               aim = given.aim.value;
               who = given.who.value;
               command = given.command.value;
-              outs = answers_of outs.now.items;
+              outs = answers_told plan.value.parts outs.now.items made.now.drained;
               reply = reply.now;
               becomes = becomes.now;
             }) }
@@ -132,6 +173,8 @@ impl Slip {
             aim: given.aim,
             who: given.who,
             command: given.command,
+            plan,
+            made: Snapshot::of(made),
             outs: Snapshot::of(outs),
             reply: Snapshot::of(reply),
             becomes: Snapshot::of(becomes),
@@ -145,6 +188,7 @@ impl Slip {
         part: &Part,
         plan: &Plan,
         index: usize,
+        made: &Made,
         out: &Out,
     ) -> Slip
         ensures { result
@@ -152,8 +196,9 @@ impl Slip {
               generation = generation;
               freed = marked_numbers (words_in marks.now);
               act =
-                  by_desk (part_with (content_at index plan.now.contents) part.now).act;
-              answer = out_answer out.now;
+                  by_desk
+                  (visit_met (content_at index plan.now.contents) part.now made.now.drained);
+              answer = answer_told part.now out.now made.now.drained;
             }) }
     {
         Slip::of(Note::Visited(Visiting {
@@ -162,6 +207,7 @@ impl Slip {
             part: Snapshot::of(part),
             plan: Snapshot::of(plan),
             index: Snapshot::of(&index),
+            made: Snapshot::of(made),
             out: Snapshot::of(out),
         }))
     }
