@@ -6,9 +6,8 @@ ghost use Rattle.kd_sound.specs.Staying.{ActsKeepPoolsSound, DrainedHaveLengths,
 /// an act places has to have some bytes, a multiple of 8, and a pool's size is to be one; no other
 /// act asks for anything.
 ///
-/// A HELLO whose pool has another size isn't well formed, and `Desk::plan` of `kd_desk` plans no
-/// other lengths. What settles was drained before (`handovers_come_first` of `kd_handovers`), of
-/// which `drained_messages_have_lengths` tells.
+/// That every plan and every event of a bus bring such lengths say `plans_have_lengths` and
+/// `acts_have_lengths` of `kd_lengths`.
 pub fn acts_keep_pools_sound()
     ensures { ActsKeepPoolsSound }
 {}
