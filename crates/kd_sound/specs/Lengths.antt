@@ -11,8 +11,8 @@ IsLength n = (0 < n) × (n % 8 ≡ 0)
 abbrev pub HaveLengths : List Image → Type 0
 HaveLengths images = AllByRecursion (λ (i : Image). IsLength (length i.content.image)) images
 
--- what is to be placed has the length of a slice, and a pool that is raised a multiple of 8; what
--- is published brings no length along, since its slice was reserved for just that many bytes
+-- what is to be placed has the length of a slice, and the size of a pool is a multiple of 8; what
+-- is published asks for nothing, since it goes into a slice that was reserved for as many bytes
 abbrev pub HasLengths : Act → Type 0
 HasLengths (by_desk (raise size)) = size % 8 ≡ 0
 HasLengths (by_desk (offer user len source must content)) = IsLength len

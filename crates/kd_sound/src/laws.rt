@@ -3,8 +3,8 @@
 ghost use Rattle.kd_sound.specs.Staying.{ActsKeepPoolsSound, DrainedHaveLengths, OnlyLengthsKeepPoolsSound, PoolsAreSound};
 
 /// Whatever is done to a sound pool, it is sound after that, and so is a pool that was raised. What
-/// an act places has to have some bytes, a multiple of 8, and a pool's size is to be one; no other
-/// act asks for anything.
+/// an act places has to have some bytes, a multiple of 8, and a pool's size has to be a multiple of
+/// 8; no other act asks for anything.
 ///
 /// That every plan and every event of a bus bring such lengths say `plans_have_lengths` and
 /// `acts_have_lengths` of `kd_lengths`.
