@@ -32,7 +32,8 @@ exit_code (BadTrace at) = 11
 -- what the program says of it on standard error; nothing where all went well
 abbrev pub status_text : Status → List ℕ
 status_text Done = []
-status_text BadWords = codes "kdbusd: usage: kdbusd replay | serve FILE | storm SEED K N"
+status_text BadWords =
+    codes "kdbusd: usage: kdbusd replay | serve FILE | storm SEED K N | record | check"
 status_text ReadFault = codes "kdbusd: read fault"
 status_text WriteFault = codes "kdbusd: write fault"
 status_text (BadFrame at) = codes "kdbusd: bad frame at byte " ++ decimal at

@@ -72,7 +72,7 @@ impl fmt::Display for Status {
             Status::BadWords => {
                 write!(
                     f,
-                    "kdbusd: usage: kdbusd replay | serve FILE | storm SEED K N"
+                    "kdbusd: usage: kdbusd replay | serve FILE | storm SEED K N | record | check"
                 )
             }
             Status::ReadFault => write!(f, "kdbusd: read fault"),
