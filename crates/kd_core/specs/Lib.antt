@@ -1,6 +1,6 @@
 -- In reading order. All serve the contracts of the code alone.
 
--- events and answers of the code, and what is run so far
+-- events and answers of the code, in the words of the definitions
 pub mod Running
 -- what a command comes to
 pub mod Planned

@@ -1,4 +1,4 @@
--- Events and answers of the code, and what is run so far.
+-- Events and answers of the code, in the words of the definitions.
 use Rattle.std.specs.Prelude.{ℕ, ◌+◌}
 use Rattle.kd_acts.specs.State as pool
 use Rattle.kd_desk.specs.declared.part.Out.{Out}
