@@ -1,10 +1,10 @@
 -- One pair more, and what holds of all.
-use Rattle.std.proofs.Common.{◌≡◌, ℕ, ◌+◌, List, [], ◌∷◌, ◌++◌, length, map, refl, sym, ap, subst, ◌∙◌, append_assoc, length-append, Bool, true, false, Option, Some, None, Result, Ok, Err, inl, inr, arith}
-use Rattle.std.specs.Prelude.{◌&&◌, ◌==◌, IsTrue, IsNone, is_none, option_map}
+use Rattle.std.proofs.Common.{◌≡◌, ℕ, ◌+◌, List, [], ◌∷◌, ◌++◌, length, refl, sym, ap, subst, ◌∙◌, append_assoc, length-append, true, false, Option, Some, None, Result, Ok, Err, arith}
+use Rattle.std.specs.Prelude.{◌&&◌, ◌==◌, is_none, option_map}
 use Rattle.std.proofs.lemmas.Bool.{true≢false}
 use Rattle.std.proofs.lemmas.List.{append-nil}
 use Rattle.std.proofs.lemmas.Grind.{flat_map-append}
-use Rattle.kd_model.proofs.Truth.{both_true, left_true, right_true}
+use Rattle.kd_model.proofs.Truth.{both_true, right_true}
 use Rattle.kd_types.specs.declared.refusal.Refusal.{Refusal}
 use Rattle.kd_wire.specs.declared.command.Command.{Command}
 use Rattle.kd_wire.specs.Opcodes.{opcode_number}
@@ -14,19 +14,18 @@ use Rattle.kd_commands.specs.Plans.{Plan}
 use Rattle.kd_world.specs.State.{Holder, World, caller_at, new_world}
 use Rattle.kd_world.specs.Planner.{planned}
 use Rattle.kd_world.specs.Holding.{next_visit}
-use Rattle.kd_world.specs.Legal.{Event, take, visit, leave, publishes, receives, reads, frees, is_caller, is_part_at, legal}
+use Rattle.kd_world.specs.Legal.{Event, take, visit, leave, publishes, receives, reads, frees, is_caller, legal}
 use Rattle.kd_world.specs.Pools.{pool_answer}
 use Rattle.kd_world.specs.Step.{holder_after, holder_by, step}
-use Rattle.kd_world.specs.Answers.{Says, taken_answer, says, told_answer, when_seated, freed_answer}
+use Rattle.kd_world.specs.Answers.{taken_answer, says, told_answer}
 use Rattle.kd_world.specs.Runs.{IsReached, all_legal, world_after}
-use Rattle.kd_world.specs.Agreed.{HandsAgree, SlicesStay}
 use Rattle.kd_world.proofs.Reached.{hands_always_agree}
 use Rattle.kd_world.proofs.Staying.{slices_always_stay}
 use Rattle.kd_world.proofs.Tied.{addressed_is_offered, offered_so_far}
+use Rattle.kd_pairs.proofs.Along.{publishes_are_paired}
 use Rattle.kd_core.specs.declared.event.Answer.{Answer}
 use Rattle.kd_core.specs.declared.event.Answer.TheVariants as answer
 use Rattle.kd_core.specs.Running.{out_of, said, told_by_pool}
-use Rattle.kd_trace.specs.declared.outcome.Outcome.{Outcome}
 use Rattle.kd_trace.specs.Trace.{ArePairs, IsPair, Pair, events, pair_bytes, trace_bytes}
 use Rattle.kd_trace.specs.Right.{AreRight, IsFirstWrong, IsLegalRun, IsRight, number_held, opening, outcome, outcome_of}
 use Rattle.kd_trace.specs.declared.verdict.Verdict.{Verdict}
@@ -211,6 +210,7 @@ legal_run es l = record {
   legal = l;
   offered = λ c free. addressed_is_offered 1000 64 8 es c l free;
   offered_so_far = λ c. offered_so_far 1000 64 8 es c l;
+  paired = publishes_are_paired 1000 64 8 es l;
   hands = λ before behind e. hands_always_agree (world_after opening before) (reached before (front_legal opening before behind (ap (all_legal opening) (sym e) ∙ l)));
   slices = λ before behind e is. slices_always_stay (world_after opening before) e (reached before (front_legal opening before (e ∷ behind) (ap (all_legal opening) (sym is) ∙ l)));
 }

@@ -1,4 +1,5 @@
--- Which traces are right: the run is legal from the opening of a bus, and each event has its answer.
+-- Which traces are right: the run is legal from the opening of a bus, and each event has its
+-- answer.
 use Rattle.std.specs.Prelude.{◌≡◌, ℕ, true, List, [], ◌∷◌, ◌++◌, length, Option, Some, None, IsNone, ⊤}
 use Rattle.kd_types.specs.Refusal.{refusal_number, refusal_value}
 use Rattle.kd_wire.specs.Opcodes.{opcode_number}
@@ -11,6 +12,7 @@ use Rattle.kd_world.specs.Step.{step}
 use Rattle.kd_world.specs.Runs.{AreLegal, world_after}
 use Rattle.kd_world.specs.Tie.{IsOffered, IsOfferedSoFar}
 use Rattle.kd_world.specs.Agreed.{HandsAgree, SlicesStay}
+use Rattle.kd_pairs.specs.Paired.{IsPairedAlong}
 use Rattle.kd_core.specs.declared.event.Answer.{Answer}
 use Rattle.kd_core.specs.declared.event.Answer.TheVariants as answer
 use Rattle.kd_core.specs.Running.{said}
@@ -20,7 +22,8 @@ use Rattle.kd_trace.specs.declared.verdict.Verdict.{Verdict}
 use Rattle.kd_trace.specs.declared.verdict.Verdict.TheVariants.{Yes, No}
 use Rattle.kd_trace.specs.Trace.{IsTrace, Pair, events, trace_bytes}
 
--- the bus of a trace, that of a replay: made by the user 1000, with filters of 64 bytes and 8 hashes
+-- the bus of a trace, that of a replay: made by the user 1000, with filters of 64 bytes and 8
+-- hashes
 abbrev pub opening : World
 opening = new_world 1000 64 8
 
@@ -80,11 +83,17 @@ HasVerdict bytes v = (ps : List Pair) × IsTrace bytes ps × IsVerdict ps v
 
 -- all that holds of the run of a right trace, named again for whoever reads a verdict: it is legal;
 -- each pool was made what the desk's history addresses to it, in order, each once, followed by what
--- the desk's holder has visited, if somebody holds it; and before each event hands agree with pools,
--- and every slice keeps its place and its bytes through it until it is let go
+-- the desk's holder has visited, if somebody holds it; each publishing that isn't gone is of the
+-- last offer before it at its pool that reserved its number, by the same caller and with that
+-- offer's content, and no other stands between the two; and before each event hands agree with
+-- pools, and every slice keeps its place and its bytes through it until it is let go
 pub record IsLegalRun (es : List Event) : Type 0 where
   pub legal : AreLegal 1000 64 8 es
   pub offered : (c : ℕ) → IsNone ((world_after opening es).holder) → IsOffered 1000 64 8 c es
   pub offered_so_far : (c : ℕ) → IsOfferedSoFar 1000 64 8 c es
-  pub hands : (before behind : List Event) → es ≡ before ++ behind → HandsAgree (world_after opening before)
-  pub slices : (before behind : List Event) (e : Event) → es ≡ before ++ e ∷ behind → SlicesStay (world_after opening before) e
+  pub paired : IsPairedAlong 1000 64 8 es
+  pub hands :
+      (before behind : List Event) → es ≡ before ++ behind → HandsAgree (world_after opening before)
+  pub slices :
+      (before behind : List Event) (e : Event) → es ≡ before ++ e ∷ behind
+      → SlicesStay (world_after opening before) e
