@@ -1,13 +1,13 @@
 -- What a check knows of the bytes that it has gone over.
-use Rattle.std.proofs.Common.{◌≡◌, ℕ, ◌+◌, ◌<◌, ◌≤◌, ◌^◌, List, [], ◌∷◌, ◌++◌, length, take, drop, refl, sym, ap, subst, ◌∙◌, append_assoc, length-append, length-drop, inl, inr, true, false, eqb-true, Result, Ok, Err, arith}
-use Rattle.std.specs.Prelude.{◌⊎◌, ◌≢◌, ◌==◌, IsErrAnd}
+use Rattle.std.proofs.Common.{◌≡◌, ℕ, ◌+◌, ◌<◌, ◌≤◌, List, [], ◌∷◌, ◌++◌, length, take, drop, refl, sym, ap, subst, ◌∙◌, append_assoc, length-append, inl, inr, true, false, eqb-true, Result, Ok, Err, arith}
+use Rattle.std.specs.Prelude.{◌≢◌, ◌==◌, IsErrAnd}
 use Rattle.std.proofs.lemmas.Bool.{true≢false}
 use Rattle.std.proofs.lemmas.List.{append-nil, length-take-le, nil_from_length, take-append-drop}
 use Rattle.kd_world.specs.State.{World}
 use Rattle.kd_trace.specs.declared.verdict.TraceError.{TraceError}
 use Rattle.kd_trace.specs.declared.verdict.Verdict.{Verdict}
 use Rattle.kd_trace.specs.declared.verdict.Verdict.TheVariants.{Yes, No}
-use Rattle.kd_trace.specs.Trace.{ArePairs, BreaksAt, IsTrace, Pair, event_bytes, events, pair_bytes, trace_bytes}
+use Rattle.kd_trace.specs.Trace.{ArePairs, BreaksAt, IsTrace, Pair, events, pair_bytes, trace_bytes}
 use Rattle.kd_trace.specs.Right.{HasVerdict, IsLegalRun, IsVerdict}
 use Rattle.kd_trace.specs.Fronts.{BeginsWithPair, BreaksFrom}
 use Rattle.kd_trace.specs.Judging.{AreJudged}

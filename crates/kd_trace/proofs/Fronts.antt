@@ -1,12 +1,11 @@
 -- What stands at the front of bytes.
-use Rattle.std.proofs.Common.{◌≡◌, ℕ, ◌+◌, ◌*◌, ◌%◌, ◌^◌, ◌<◌, ◌≤◌, List, [], ◌∷◌, ◌++◌, length, take, drop, refl, sym, ap, subst, ◌∙◌, append_assoc, length-append, length-drop, Option, Some, None, inl, inr, arith}
-use Rattle.std.specs.Prelude.{◌⊎◌}
-use Rattle.std.proofs.lemmas.List.{take_at, take-append-drop, length-take-le}
+use Rattle.std.proofs.Common.{◌≡◌, ℕ, ◌+◌, ◌^◌, ◌<◌, ◌≤◌, List, [], ◌∷◌, ◌++◌, length, take, drop, refl, sym, ap, subst, ◌∙◌, length-append, length-drop, Some, None, arith}
+use Rattle.std.proofs.lemmas.List.{take_at}
 use Rattle.std.proofs.Math.Seq.{take-add}
 use Rattle.kd_model.proofs.Truth.{no_some, same_some}
 use Rattle.kd_item.specs.Spelling.{Entry, Fits, spelling}
 use Rattle.kd_item.specs.Reading.{item_at}
-use Rattle.kd_item.proofs.Words.{IsBytes, IsBytes-drop, IsBytes-front, length-word, length-words}
+use Rattle.kd_item.proofs.Words.{IsBytes, IsBytes-front, length-word, length-words}
 use Rattle.kd_item.proofs.OneItem.{item_again}
 use Rattle.kd_item.proofs.Splits.{item_takes, spelled_length}
 use Rattle.kd_item.proofs.Sizes.{body_bytes}
@@ -17,11 +16,11 @@ use Rattle.kd_wire.specs.Commands.{bit}
 use Rattle.kd_world.specs.Legal.{Event, visit, leave, publishes, receives, reads, frees, is_caller}
 use Rattle.kd_world.specs.Legal as legal
 use Rattle.kd_trace.specs.declared.outcome.Outcome.{Outcome}
-use Rattle.kd_trace.specs.Items.{IsEventItem, IsOutcome, IsOutcomeItem, MayStand, caller_of, event_entry, limit_word, mode_flags, outcome_entry}
+use Rattle.kd_trace.specs.Items.{IsEventItem, MayStand, caller_of, event_entry, limit_word, mode_flags, outcome_entry}
 use Rattle.kd_trace.specs.Reading.{outcome_in}
-use Rattle.kd_trace.specs.Trace.{HasNoEvent, HasNoOutcome, IsPair, Pair, event_bytes, outcome_bytes, pair_bytes}
-use Rattle.kd_trace.specs.Fronts.{BeginsWithEvent, BeginsWithOutcome, BeginsWithPair, BreaksFrom}
-use Rattle.kd_trace.proofs.EventItems.{caller_small}
+use Rattle.kd_trace.specs.Trace.{HasNoEvent, HasNoOutcome, event_bytes}
+use Rattle.kd_trace.specs.Fronts.{BeginsWithEvent, BeginsWithOutcome, BeginsWithPair}
+use Rattle.kd_trace.proofs.EventsAgain.{caller_small}
 use Rattle.kd_trace.proofs.Outcomes.{outcome_again, outcome_back}
 
 -- ---- an item

@@ -1,5 +1,8 @@
 pub mod Bodies
 pub mod Outcomes
+pub mod EventsBack
+pub mod EventsAgain
+pub mod Takes
 pub mod EventItems
 pub mod Fronts
 pub mod Alike

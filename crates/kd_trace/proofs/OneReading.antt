@@ -1,5 +1,5 @@
 -- A trace has one reading, and bytes that break aren't one.
-use Rattle.std.proofs.Common.{◌≡◌, ℕ, ◌+◌, ◌^◌, ◌<◌, ◌≤◌, List, [], ◌∷◌, ◌++◌, length, drop, refl, sym, ap, subst, ◌∙◌, append_assoc, length-append, Option, Some, None, inl, inr, arith}
+use Rattle.std.proofs.Common.{◌≡◌, ℕ, List, [], ◌∷◌, ◌++◌, length, drop, refl, sym, ap, subst, ◌∙◌, append_assoc, length-append, inl, inr, arith}
 use Rattle.std.specs.Prelude.{◌⊎◌, ◌≢◌}
 use Rattle.kd_model.proofs.Truth.{same_some}
 use Rattle.kd_item.specs.Spelling.{Entry, Fits, item_length, spelling}
@@ -11,7 +11,7 @@ use Rattle.kd_wire.proofs.ReadAgain.{one_value}
 use Rattle.kd_world.specs.Legal.{Event, visit, leave, publishes, receives, reads, frees}
 use Rattle.kd_world.specs.Legal as legal
 use Rattle.kd_trace.specs.declared.outcome.Outcome.{Outcome}
-use Rattle.kd_trace.specs.Items.{IsEventItem, IsOutcome, IsOutcomeItem, MayStand, caller_of, event_entry, outcome_entry}
+use Rattle.kd_trace.specs.Items.{IsOutcome, IsOutcomeItem, MayStand, caller_of, event_entry, outcome_entry}
 use Rattle.kd_world.specs.State.{World}
 use Rattle.kd_world.specs.Step.{step}
 use Rattle.kd_world.specs.Runs.{world_after}
@@ -20,7 +20,8 @@ use Rattle.kd_trace.specs.declared.verdict.Verdict.TheVariants.{Yes, No}
 use Rattle.kd_trace.specs.Right.{AreRight, IsFirstWrong, IsRight, IsVerdict, opening}
 use Rattle.kd_trace.specs.Reading.{event_in}
 use Rattle.kd_trace.specs.Trace.{ArePairs, BreaksAt, HasNoEvent, HasNoOutcome, IsPair, IsTrace, Pair, event_bytes, events, outcome_bytes, pair_bytes, trace_bytes}
-use Rattle.kd_trace.proofs.EventItems.{IsTake, caller_small, event_again, item, take_has, take_only}
+use Rattle.kd_trace.proofs.EventsAgain.{IsTake, caller_small, event_again}
+use Rattle.kd_trace.proofs.Takes.{take_has, take_only}
 use Rattle.kd_trace.proofs.Fronts.{event_fits}
 use Rattle.kd_trace.proofs.Outcomes.{one_outcome}
 

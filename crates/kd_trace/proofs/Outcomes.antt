@@ -1,6 +1,6 @@
 -- Answers that are read are spelled so, and those that are spelled so are read.
-use Rattle.std.proofs.Common.{◌≡◌, ℕ, ◌^◌, ◌<◌, List, [], ◌∷◌, ◌++◌, length, drop, refl, sym, ap, subst, ◌∙◌, inl, inr, Bool, true, false, cond, eqb, ltb, not, eqb-true, eq-eqb, append_assoc, length-append, Option, Some, None, Result, Ok, Err, arith}
-use Rattle.std.specs.Prelude.{is_some, IsTrue}
+use Rattle.std.proofs.Common.{◌≡◌, ℕ, ◌^◌, ◌<◌, List, [], ◌∷◌, ◌++◌, length, drop, refl, sym, ap, subst, ◌∙◌, inl, inr, true, eqb, ltb, not, eqb-true, eq-eqb, append_assoc, length-append, Some, Result, Ok, Err, arith}
+use Rattle.std.specs.Prelude.{is_some}
 use Rattle.std.proofs.lemmas.Bool.{ltb-true, lt-ltb}
 use Rattle.kd_model.proofs.Truth.{let_through, not_false, same_some}
 use Rattle.std.proofs.lemmas.List.{drop_at}
@@ -14,7 +14,7 @@ use Rattle.kd_wire.specs.ReplyReading.{refusal_from, reply_in}
 use Rattle.kd_wire.proofs.ReplyLaws.{reply_read}
 use Rattle.kd_trace.specs.declared.outcome.Outcome.{Outcome}
 use Rattle.kd_trace.specs.declared.outcome.Outcome.TheVariants.{Taken, Published, Gone, Freed, Visited, Refused, Slice, VisitRefused, Left, Got, Bytes}
-use Rattle.kd_trace.specs.Items.{IsOutcome, IsOutcomeItem, IsRefusal, of_words, outcome_entry}
+use Rattle.kd_trace.specs.Items.{IsOutcome, IsOutcomeItem, of_words, outcome_entry}
 use Rattle.kd_trace.specs.Reading.{got_in, left_by, left_in, outcome_in, plain_in, plain_of, refused_in, slice_in, visit_refused_in}
 use Rattle.kd_trace.proofs.Bodies.{One, Two, Four, either, entry_is, four_again, four_back, one_again, one_back, passes, two_again, two_back}
 

@@ -107,7 +107,8 @@ outcome_entry n (Bytes bytes) = record { kind = 54; body = bytes }
 
 -- there is a refusal of this number and value
 abbrev pub IsRefusal : ℕ → ℕ → Type 0
-IsRefusal code value = IsTrue (is_some (refusal_from code value)) × (code < 2 ^ 64) × (value < 2 ^ 64)
+IsRefusal code value =
+    IsTrue (is_some (refusal_from code value)) × (code < 2 ^ 64) × (value < 2 ^ 64)
 
 -- an answer that a trace can have, the right one or not; a reply is one that reads again as itself
 abbrev pub IsOutcome : ℕ → Outcome → Type 0

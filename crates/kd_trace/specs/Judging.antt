@@ -5,7 +5,6 @@ use Rattle.kd_wire.specs.Commands.{opcode_in}
 use Rattle.kd_world.specs.State.{Holder, World}
 use Rattle.kd_world.specs.Legal.{Event, take}
 use Rattle.kd_world.specs.Runs.{world_after}
-use Rattle.kd_core.specs.Running.{Running}
 use Rattle.kd_trace.specs.declared.verdict.Verdict.{Verdict}
 use Rattle.kd_trace.specs.declared.verdict.Verdict.TheVariants.{Yes, No}
 use Rattle.kd_trace.specs.Trace.{Pair, events}

@@ -1,5 +1,5 @@
 -- Events and answers as they are read: one test after the other, in the order of the code.
-use Rattle.std.specs.Prelude.{ℕ, ◌^◌, Bool, not, ◌&&◌, nat_lt, nat_le, ◌==◌, if◌then◌else◌, List, [], ◌∷◌, length, drop, Option, Some, None, Result, Ok, Err, is_some}
+use Rattle.std.specs.Prelude.{ℕ, ◌^◌, Bool, not, nat_lt, ◌==◌, if◌then◌else◌, List, length, drop, Option, Some, None, Result, Ok, Err, is_some}
 use Rattle.std.specs.Int.{w64, cast_signed}
 use Rattle.kd_item.specs.Spelling.{Entry, number}
 use Rattle.kd_types.specs.Flags.{has_bits}

@@ -60,12 +60,18 @@ impl Check {
 
     /// One pair more, whose event begins at this byte.
     fn judge(&mut self, alloc: Global, pair: PairRead, at: u64) -> Result<(), AllocError>
-        requires judged { (ps : List Pair) × AreJudged ps self.old.run.world.world self.old.run.number self.old.count self.old.verdict }
+        requires judged { (ps : List Pair)
+            × AreJudged ps self.old.run.world.world self.old.run.number self.old.count
+            self.old.verdict }
         requires steps { self.old.run.world.steps < 2 ^ 54 }
         requires count { self.old.count < 2 ^ 54 }
-        ensures judged { (ps : List Pair) → AreJudged ps self.old.run.world.world self.old.run.number self.old.count self.old.verdict
+        ensures judged { (ps : List Pair)
+            → AreJudged ps self.old.run.world.world self.old.run.number self.old.count
+            self.old.verdict
             → at ≡ length (trace_bytes ps)
-            → OnOk result (AreJudged (ps ++ pair_of pair ∷ []) self.new.run.world.world self.new.run.number self.new.count self.new.verdict) }
+            → OnOk result
+            (AreJudged (ps ++ pair_of pair ∷ []) self.new.run.world.world self.new.run.number
+            self.new.count self.new.verdict) }
         ensures steps { self.new.run.world.steps ≤ self.old.run.world.steps + 1 }
         ensures count { self.new.count ≤ self.old.count + 1 }
     {

@@ -110,7 +110,9 @@ fn number_with(event: &Event, number: u64) -> u64
 /// taken.
 #[derive(Drop)]
 pub struct Run {
+    /// The bus and its callers, behind the events that were run.
     pub world: World,
+    /// The number of a command; 0 where the desk was never taken.
     pub number: u64,
 }
 

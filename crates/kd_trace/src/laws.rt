@@ -14,7 +14,8 @@ pub fn a_trace_has_one_reading()
 
 /// Bytes that break are no trace.
 pub fn what_breaks_is_no_trace()
-    ensures { (bytes : List ℕ) (at : ℕ) (ps : List Pair) → BreaksAt bytes at → IsTrace bytes ps → ⊥ }
+    ensures { (bytes : List ℕ) (at : ℕ) (ps : List Pair) → BreaksAt bytes at → IsTrace bytes ps
+        → ⊥ }
 {}
 
 /// A trace is right, or has one first pair that isn't.

@@ -10,8 +10,8 @@
 //!     pair 0                      pair 1                 pair 2
 //! ```
 //!
-//! `specs/` says which bytes are a trace and which traces are right; [`check_trace`] judges bytes by
-//! it.
+//! `specs/` says which bytes are a trace and which traces are right; [`check_trace`] judges bytes
+//! by it.
 #![tactic(auto)]
 
 mod checking;

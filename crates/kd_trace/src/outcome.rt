@@ -18,28 +18,39 @@ pub enum Outcome {
     Visited,
     /// The desk or the pool refused, by the refusal's number and its value.
     Refused {
+        /// The refusal's number.
         code: u64,
+        /// Its value; 0 where it has none.
         value: u64,
     },
-    /// The pool reserved this slice for the visit.
+    /// The pool reserved a slice for the visit.
     Slice {
+        /// The slice's number.
         number: u32,
     },
     /// The pool refused the visit, by the refusal's number and its value.
     VisitRefused {
+        /// The refusal's number.
         code: u64,
+        /// Its value; 0 where it has none.
         value: u64,
     },
-    /// The reply to the command of this number, with which the desk was left.
+    /// The desk was left with a reply.
     Left {
+        /// The number of the command that is replied to.
         command: u64,
+        /// What its caller is told.
         reply: Reply,
     },
-    /// The slice that was received, where it lies, and how many messages were dropped before it.
+    /// A message was received.
     Got {
+        /// The number of its slice.
         number: u32,
+        /// Where the slice begins in the pool, in bytes.
         offset: u64,
+        /// How many bytes the message has.
         length: u64,
+        /// How many messages were dropped since the receive before.
         dropped: u64,
     },
     /// The bytes that were read.

@@ -17,8 +17,11 @@ use std::alloc::{AllocError, Global};
 /// An event and its answer, and how many bytes their items take.
 #[derive(Debug, Drop)]
 pub struct PairRead {
+    /// What was done, and by whom.
     pub event: Event,
+    /// What it was answered.
     pub outcome: Outcome,
+    /// How many bytes the two items take.
     pub size: usize,
 }
 

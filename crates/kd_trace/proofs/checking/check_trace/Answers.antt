@@ -1,4 +1,4 @@
-use Rattle.std.proofs.Common.{◌≡◌, sym, ap, ◌∙◌, Err}
+use Rattle.std.proofs.Common.{sym}
 use Rattle.kd_trace.specs.Fronts.{pair_of}
 use Rattle.kd_trace.proofs.Runs.{same_ok}
 use Rattle.kd_trace.proofs.Checks.{breaks, err_is, has_verdict, is_legal, nothing_left, some_left, stands_more}

@@ -1,11 +1,8 @@
-use Rattle.std.proofs.Common.{◌≡◌, List, ℕ, length, arith, sym, ap, ◌∙◌}
-use Rattle.kd_model.proofs.Truth.{no_some}
-use Rattle.kd_wire.specs.declared.port.Port.TheVariants.{Replay}
+use Rattle.std.proofs.Common.{List, ℕ, length, arith, sym, ap, ◌∙◌}
 use Rattle.kd_wire.specs.Frames.{cut_of}
-use Rattle.kd_wire.specs.Refusals.{refusal_of}
 use Rattle.kd_wire.proofs.Accepted.{frame_size}
 use Rattle.kd_trace.specs.Reading.{take_with}
-use Rattle.kd_trace.proofs.EventItems.{FrameRead, not_refused_here, take_body, take_none, take_read}
+use Rattle.kd_trace.proofs.Takes.{FrameRead, not_refused_here, take_body, take_none, take_read}
 use Rattle.kd_trace.proofs.event_items.read_take.Goals as goal
 
 pub returns-then-body-lt8-clause-none : goal.returns-then-body-lt8-clause-none

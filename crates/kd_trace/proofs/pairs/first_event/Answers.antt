@@ -1,4 +1,4 @@
-use Rattle.std.proofs.Common.{◌≡◌, drop, subst, arith, Option}
+use Rattle.std.proofs.Common.{drop, subst, arith, Option}
 use Rattle.std.specs.Prelude.{IfNone, IfSome}
 use Rattle.kd_item.specs.Reading.{item_entry}
 use Rattle.kd_core.specs.declared.event.Event as code

@@ -1,4 +1,4 @@
-use Rattle.std.proofs.Common.{◌≡◌, ℕ, List, drop, subst, Option}
+use Rattle.std.proofs.Common.{ℕ, List, drop, subst, Option}
 use Rattle.std.specs.Prelude.{IfSome}
 use Rattle.kd_core.specs.declared.event.Event as code
 use Rattle.kd_core.specs.Running.{event_of}

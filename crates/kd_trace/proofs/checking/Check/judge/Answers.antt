@@ -1,6 +1,3 @@
-use Rattle.std.proofs.Common.{◌≡◌, true, ap, refl, Ok, Result, Bool}
-use Rattle.std.specs.declared.alloc.AllocError.{AllocError}
-use Rattle.kd_core.specs.Running.{event_of}
 use Rattle.kd_trace.specs.Fronts.{pair_of}
 use Rattle.kd_trace.proofs.Runs.{ok_is, right_goes_on, wrong_stays}
 use Rattle.kd_trace.proofs.checking.Check.judge.Goals as goal

@@ -1,10 +1,10 @@
-use Rattle.std.proofs.Common.{◌≡◌, ℕ, true, false, sym, ap, subst, ◌∙◌, arith}
+use Rattle.std.proofs.Common.{◌≡◌, ℕ, true, sym, ap, subst, ◌∙◌, arith}
 use Rattle.std.proofs.lemmas.Bool.{true≢false}
 use Rattle.kd_world.specs.State.{World}
 use Rattle.kd_world.specs.Legal.{legal}
 use Rattle.kd_world.specs.Step.{step}
 use Rattle.kd_core.specs.Running.{Running, event_of, stepped}
-use Rattle.kd_trace.specs.Right.{outcome, outcome_of}
+use Rattle.kd_trace.specs.Right.{outcome_of}
 use Rattle.kd_trace.specs.Judging.{HoldsNumber}
 use Rattle.kd_trace.proofs.Runs.{answer_same, number_after, same_ok}
 use Rattle.kd_trace.proofs.judging.Run.is_right.Goals as goal
