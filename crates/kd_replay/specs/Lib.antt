@@ -8,5 +8,7 @@ pub mod Turns
 pub mod Events
 -- * what a replay writes, and how it ends
 pub mod Transcript
+-- * how a run's input was read
+pub mod Ends
 -- what the code's answers are replied as
 pub mod Answering
