@@ -6,6 +6,12 @@ pub mod Items
 pub mod Trace
 -- * which traces are right
 pub mod Right
+-- * the words of a run
+pub mod Words
+-- * what is written of a verdict
+pub mod Texts
+-- * how a check ends, and what was read and written then
+pub mod Ends
 -- events and answers as they are read
 pub mod Reading
 -- what a reader finds at the front of bytes

@@ -11,7 +11,7 @@
 //! ```
 //!
 //! `specs/` says which bytes are a trace and which traces are right; [`check_trace`] judges bytes
-//! by it.
+//! by it, and [`check_run`] those that it reads.
 #![tactic(auto)]
 
 mod checking;
@@ -22,9 +22,12 @@ mod laws;
 mod outcome;
 mod outcome_items;
 mod pairs;
+mod telling;
 mod verdict;
+mod words;
 
 pub use checking::check_trace;
 pub use laws::{a_trace_has_one_reading, a_trace_has_one_verdict, what_breaks_is_no_trace};
 pub use outcome::Outcome;
+pub use telling::check_run;
 pub use verdict::{TraceError, Verdict};

@@ -1,9 +1,12 @@
 //! What is said of a trace.
 
 ghost use Rattle.std.specs.Prelude.{◌≡◌};
+ghost use Rattle.std.specs.declared.option.Option.TheVariants.{Some};
 ghost use Rattle.kd_trace.specs.declared.verdict.TraceError.TheVariants.{OutOfMemory};
+ghost use Rattle.kd_trace.specs.Texts.{verdict_text};
 
 use std::alloc::{AllocError, AllocFailed};
+use std::fmt;
 
 /// Whether a run was legal, and was answered as it had to be.
 #[derive(Clone, Copy, Debug, PartialEq, Eq)]
@@ -17,6 +20,17 @@ pub enum Verdict {
         /// The byte at which its event begins.
         at: u64,
     },
+}
+
+impl fmt::Display for Verdict {
+    ghost output = { λ verdict. Some (verdict_text verdict) };
+
+    fn fmt<W: fmt::Write>(&self, f: &mut fmt::Formatter<W>) -> fmt::Result {
+        match self {
+            Verdict::Yes => write!(f, "yes"),
+            Verdict::No { index, at } => write!(f, "no {index} {at}"),
+        }
+    }
 }
 
 /// Why bytes weren't judged.
