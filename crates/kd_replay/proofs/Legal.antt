@@ -13,7 +13,7 @@ use Rattle.kd_wire.proofs.Formed.{judged}
 use Rattle.kd_commands.specs.Plans.{Plan}
 use Rattle.kd_core.specs.declared.event.Answer.TheVariants as answer
 use Rattle.kd_wire.specs.declared.reply.Reply.{Reply}
-use Rattle.kd_world.specs.State.{Holder, World}
+use Rattle.kd_world.specs.State.{World}
 use Rattle.kd_world.specs.Answers.{Says, says, taken_answer}
 use Rattle.kd_world.specs.Holding.{holds_desk}
 use Rattle.kd_world.specs.Legal.{Event, take, visit, leave, publishes, receives, reads, frees, is_caller, is_for_desk, legal}
@@ -22,11 +22,13 @@ use Rattle.kd_world.specs.Runs.{all_legal, world_after}
 use Rattle.kd_world.specs.Whole.{Whole, left_and_published, next_publish, next_seat, part_count, pending_count, published, publishings, visits, visits_run, whole}
 use Rattle.kd_replay.specs.Turns.{IsReady, Turn, mode_of, replay_world, replied, reply_of, slice_number, turn}
 use Rattle.kd_replay.specs.Events.{IsRunBy, events_at_desk, events_held, events_of, publishes_of, replies_along, told_by, visits_of}
+use Rattle.kd_replay.specs.Frames.{IsRead}
 use Rattle.kd_replay.specs.Transcript.{Answered, AreRun, Ends, IsFrameRun, IsTurn}
 use Rattle.kd_replay.proofs.Holding.{callers_stay, free_behind_leave, opens_ready, ready_behind_free, ready_behind_publish, ready_behind_read, ready_behind_receive}
+use Rattle.kd_replay.proofs.Along.{runs_append}
 use Rattle.kd_replay.proofs.Visits.{remaining, fuel_at_first, visited_one, leave_may}
 use Rattle.kd_replay.proofs.Publishes.{publish_may}
-use Rattle.kd_replay.proofs.Takes.{answer_of, holder_of, plan_of, taken, take_may, turned_away}
+use Rattle.kd_replay.proofs.Takes.{answer_of, holder_of, plan_of, taken, take_may, taken_events, turned_away}
 use Rattle.kd_replay.proofs.Modes.{free_may, read_may, receive_may}
 
 legal_append : (w : World) (es fs : List Event) → all_legal w es ≡ true → all_legal (world_after w es) fs ≡ true → all_legal w (es ++ fs) ≡ true
@@ -36,11 +38,6 @@ legal_append w (e ∷ es) fs a b =
     let h = both_true (legal w e) (all_legal (step w e) es) a in
     let more : all_legal (step w e) (es ++ fs) ≡ true = legal_append (step w e) es fs h.1 b in
     rw (h.0, more) refl
-
-runs_append : (w : World) (es fs : List Event) → world_after w (es ++ fs) ≡ world_after (world_after w es) fs
-unfolding world_after
-runs_append w [] fs = refl
-runs_append w (e ∷ es) fs = runs_append (step w e) es fs
 
 replies_append : (w : World) (es fs : List Event) → replies_along w (es ++ fs) ≡ replies_along w es ++ replies_along (world_after w es) fs
 unfolding replies_along world_after
@@ -141,10 +138,6 @@ record MayTake (w : World) (n : ℕ) (x : Command) : Type 0 where
   desk : is_for_desk x ≡ true
   form : is_well_formed x ≡ true
 
-taken_events : (w : World) (n : ℕ) (x : Command) (o : Option Holder) → (step w (take n x)).holder ≡ o → events_at_desk w n x ≡ elim o [ None ↦ take n x ∷ [] | Some h ↦ take n x ∷ events_held (step w (take n x)) n ]
-unfolding events_at_desk
-taken_events w n x o e = ap (λ (o : Option Holder). elim o [ None ↦ take n x ∷ [] | Some h ↦ take n x ∷ events_held (step w (take n x)) n ]) e
-
 told_taking : (w : World) (n : ℕ) (x : Command) (r : Result Plan Refusal) → r ≡ plan_of w n x → says w (take n x) ≡ taken_answer r
 unfolding says
 told_taking w n x r is = ap taken_answer (sym is)
@@ -167,7 +160,7 @@ desk_by w n x (Ok p) is m =
     let one : IsRunBy w (take n x ∷ []) (told_by (take n x) (says w (take n x)) ++ []) held = by_one w (take n x) (take_may w n x m.caller m.ready m.desk m.form) in
     let silent : told_by (take n x) (says w (take n x)) ++ [] ≡ [] = ap (λ (a : Says). told_by (take n x) a ++ []) (told_taking w n x (Ok p) is) in
     let path : IsRunBy w (take n x ∷ events_held held n) (reply_of end.answer ∷ []) end.next = join w held end.next (take n x ∷ []) (events_held held n) [] (reply_of end.answer ∷ []) (subst (λ rs. IsRunBy w (take n x ∷ []) rs held) silent one) g.path in
-    let events : events_at_desk w n x ≡ take n x ∷ events_held held n = taken_events w n x _ (holder_of w n x (Ok p) is) in
+    let events : events_at_desk w n x ≡ take n x ∷ events_held held n = inside.events in
     subst (λ (t : Whole). IsGood w (events_at_desk w n x) (reply_of t.answer ∷ []) t.next) (sym inside.turn)
     (subst (λ es. IsGood w es (reply_of end.answer ∷ []) end.next) (sym events) (record { path = path; ready = g.ready }))
 
@@ -206,6 +199,12 @@ record HasRun (w : World) (frame : List ℕ) (t : Turn) : Type 0 where
 ends_of : (w : World) (es : List Event) (rs : List Reply) (end : World) → IsRunBy w es rs end → Ends w es end
 ends_of w es rs end r = record { legal = r.legal; ends = r.ends }
 
+-- a frame that is no refused one is run by the events of its command
+pub command_run : (w : World) (frame : List ℕ) (t : Turn) (caller : ℕ) (command : Command) → IsReady w → IsRead frame caller command → t ≡ turn w caller command → IsFrameRun w frame (events_of w caller command) t
+command_run w frame t caller command r read is =
+    let g = turn_good w caller command read.admitted r read.run (judged command read.form) in
+    inr (caller, command, read, is, refl, subst (λ (u : Turn). IsRunBy w (events_of w caller command) (u.reply ∷ []) u.next) (sym is) g.path)
+
 frame_good : (w : World) (frame : List ℕ) (t : Turn) → IsReady w → IsTurn w frame t → HasRun w frame t
 frame_good w frame t r (inl (why, e, is)) =
     record { events = []; run = inl ((why, e, is), refl); path = subst (λ (u : Turn). Ends w [] u.next) (sym is) (ends_of w [] [] w (here w)); ready = subst (λ (u : Turn). IsReady u.next) (sym is) r }
@@ -213,7 +212,7 @@ frame_good w frame t r (inr (caller, command, read, is)) =
     let es : List Event = events_of w caller command in
     let g = turn_good w caller command read.admitted r read.run (judged command read.form) in
     let path : IsRunBy w es (t.reply ∷ []) t.next = subst (λ (u : Turn). IsRunBy w es (u.reply ∷ []) u.next) (sym is) g.path in
-    record { events = es; run = inr (caller, command, read, is, refl, path); path = ends_of w es (t.reply ∷ []) t.next path; ready = subst (λ (u : Turn). IsReady u.next) (sym is) g.ready }
+    record { events = es; run = command_run w frame t caller command r read is; path = ends_of w es (t.reply ∷ []) t.next path; ready = subst (λ (u : Turn). IsReady u.next) (sym is) g.ready }
 
 ends_join : (w mid end : World) (es fs : List Event) → Ends w es mid → Ends mid fs end → Ends w (es ++ fs) end
 ends_join w mid end es fs a b = record {

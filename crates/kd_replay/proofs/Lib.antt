@@ -1,6 +1,7 @@
 pub mod Cuts
 pub mod Lines
 pub mod Holding
+pub mod Along
 pub mod Visits
 pub mod Publishes
 pub mod Replies
@@ -9,3 +10,4 @@ pub mod Modes
 pub mod Written
 pub mod Only
 pub mod Legal
+pub mod AtDesk

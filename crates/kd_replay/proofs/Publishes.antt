@@ -1,18 +1,21 @@
 -- What a caller has yet to publish.
-use Rattle.std.proofs.Common.{◌≡◌, ℕ, zero, suc, ◌+◌, ◌-◌, ◌≤◌, Bool, true, false, eq-eqb, leb, List, [], ◌∷◌, length, get_or, Option, Some, None, refl, sym, ap, ◌∙◌, arith}
+use Rattle.std.proofs.Common.{◌≡◌, ℕ, zero, suc, ◌+◌, ◌-◌, ◌≤◌, Bool, true, false, eq-eqb, leb, List, [], ◌∷◌, ◌++◌, append_assoc, length, get_or, Option, Some, None, refl, sym, ap, ◌∙◌, arith}
 use Rattle.std.specs.Prelude.{is_some, ◌==◌}
-use Rattle.std.proofs.lemmas.List.{get_or-set_same}
+use Rattle.std.proofs.lemmas.List.{append-nil, get_or-set_same}
 use Rattle.std.proofs.lemmas.Bool.{leb-true}
 use Rattle.kd_model.specs.Words.{first}
 use Rattle.kd_model.proofs.Truth.{both_true, same_some}
 use Rattle.kd_world.specs.State.{Pending, World, Caller, caller_at, stranger}
 use Rattle.kd_world.specs.Holding.{holds_desk}
 use Rattle.kd_world.specs.Own.{is_pending_at}
-use Rattle.kd_world.specs.Legal.{publishes, is_caller, legal}
+use Rattle.kd_world.specs.Legal.{Event, publishes, is_caller, legal}
 use Rattle.kd_world.specs.Callers.{callers_after, has_published, with_caller, without_first}
 use Rattle.kd_world.specs.Step.{step}
+use Rattle.kd_world.specs.Runs.{world_after}
 use Rattle.kd_world.specs.Whole.{next_publish, pending_count, publish_place, published, publishings}
 use Rattle.kd_replay.specs.Turns.{IsReady}
+use Rattle.kd_replay.specs.Events.{publishes_of}
+use Rattle.kd_replay.proofs.Along.{one_more_run}
 use Rattle.kd_replay.proofs.Holding.{ready_behind_publish}
 
 -- the oldest pending is the one of its seat and number
@@ -62,30 +65,51 @@ one_fewer w n s k c r e =
     let after : caller_at (step w (publishes n s k)) n ≡ has_published s k (caller_at w n) = changed w n (has_published s k (caller_at w n)) c r in
     omega (arith, ap (λ (x : Caller). length x.pendings) after, o.fewer)
 
--- so far: what is left to publish
-pub record Publishing (start now : World) (n : ℕ) : Type 0 where
+-- so far, behind these events: what is left to publish
+pub record Publishing (start now : World) (n : ℕ) (es : List Event) : Type 0 where
   pub fuel : ℕ
   pub same : publishings fuel n now ≡ published start n
+  pub left : es ++ publishes_of fuel n now ≡ publishes_of (pending_count start n) n start
+  pub reached : now ≡ world_after start es
   pub enough : pending_count now n ≤ fuel
   pub ready : IsReady now
 
-pub publishing_first : (w : World) (n : ℕ) → IsReady w → Publishing w w n
-publishing_first w n r = record { fuel = pending_count w n; same = refl; enough = omega arith; ready = r }
+pub publishing_first : (w : World) (n : ℕ) → IsReady w → Publishing w w n []
+unfolding world_after
+publishing_first w n r = record { fuel = pending_count w n; same = refl; left = refl; reached = refl; enough = omega arith; ready = r }
 
-go_on : (start now : World) (n s k m : ℕ) → publishings m n now ≡ published start n → pending_count now n ≤ m → IsReady now → is_caller n ≡ true → next_publish now n ≡ Some (s, k) → Publishing start (step now (publishes n s k)) n
-unfolding publishings
-go_on start now n s k zero same enough r c next = absurd (let bad : ⊥ = omega (arith, one_fewer now n s k c r next, enough) in bad)
-go_on start now n s k (suc m) same enough r c next =
-    let opened : publishings (suc m) n now ≡ publishings m n (step now (publishes n s k)) = ap (λ (o : Option (ℕ × ℕ)). elim o [ None ↦ now | Some p ↦ publishings m n (step now (publishes n p.0 p.1)) ]) next in
-    record { fuel = m; same = sym opened ∙ same; enough = omega (arith, one_fewer now n s k c r next, enough); ready = ready_behind_publish now n s k r }
+go_on : (start now : World) (n s k m : ℕ) (es : List Event) → publishings m n now ≡ published start n → es ++ publishes_of m n now ≡ publishes_of (pending_count start n) n start → now ≡ world_after start es → pending_count now n ≤ m
+    → IsReady now → is_caller n ≡ true → next_publish now n ≡ Some (s, k) → Publishing start (step now (publishes n s k)) n (es ++ publishes n s k ∷ [])
+unfolding publishings publishes_of
+go_on start now n s k zero es same left reached enough r c next = absurd (let bad : ⊥ = omega (arith, one_fewer now n s k c r next, enough) in bad)
+go_on start now n s k (suc m) es same left reached enough r c next =
+    let mid : World = step now (publishes n s k) in
+    let opened : publishings (suc m) n now ≡ publishings m n mid = ap (λ (o : Option (ℕ × ℕ)). elim o [ None ↦ now | Some p ↦ publishings m n (step now (publishes n p.0 p.1)) ]) next in
+    let events : publishes_of (suc m) n now ≡ publishes n s k ∷ publishes_of m n mid = ap (λ (o : Option (ℕ × ℕ)). elim o [ None ↦ [] | Some p ↦ publishes n p.0 p.1 ∷ publishes_of m n (step now (publishes n p.0 p.1)) ]) next in
+    record {
+      fuel = m;
+      same = sym opened ∙ same;
+      left = append_assoc es (publishes n s k ∷ []) (publishes_of m n mid) ∙ ap (λ (l : List Event). es ++ l) (sym events) ∙ left;
+      reached = one_more_run start now es (publishes n s k) reached;
+      enough = omega (arith, one_fewer now n s k c r next, enough);
+      ready = ready_behind_publish now n s k r;
+    }
 
-pub publishing_more : (start now : World) (n s k : ℕ) → Publishing start now n → is_caller n ≡ true → next_publish now n ≡ Some (s, k) → Publishing start (step now (publishes n s k)) n
-publishing_more start now n s k p c next = go_on start now n s k p.fuel p.same p.enough p.ready c next
+pub publishing_more : (start now : World) (n s k : ℕ) (es : List Event) → Publishing start now n es → is_caller n ≡ true → next_publish now n ≡ Some (s, k) → Publishing start (step now (publishes n s k)) n (es ++ publishes n s k ∷ [])
+publishing_more start now n s k es p c next = go_on start now n s k p.fuel es p.same p.left p.reached p.enough p.ready c next
 
 none_left : (m n : ℕ) (w : World) → next_publish w n ≡ None → publishings m n w ≡ w
 unfolding publishings
 none_left zero n w e = refl
 none_left (suc m) n w e = ap (λ (o : Option (ℕ × ℕ)). elim o [ None ↦ w | Some p ↦ publishings m n (step w (publishes n p.0 p.1)) ]) e
 
-pub publishing_ends : (start now : World) (n : ℕ) → Publishing start now n → next_publish now n ≡ None → now ≡ published start n
-publishing_ends start now n p e = sym (none_left p.fuel n now e) ∙ p.same
+no_publishes : (m n : ℕ) (w : World) → next_publish w n ≡ None → publishes_of m n w ≡ []
+unfolding publishes_of
+no_publishes zero n w e = refl
+no_publishes (suc m) n w e = ap (λ (o : Option (ℕ × ℕ)). elim o [ None ↦ [] | Some p ↦ publishes n p.0 p.1 ∷ publishes_of m n (step w (publishes n p.0 p.1)) ]) e
+
+pub publishing_ends : (start now : World) (n : ℕ) (es : List Event) → Publishing start now n es → next_publish now n ≡ None → now ≡ published start n
+publishing_ends start now n es p e = sym (none_left p.fuel n now e) ∙ p.same
+
+pub published_all : (start now : World) (n : ℕ) (es : List Event) → Publishing start now n es → next_publish now n ≡ None → es ≡ publishes_of (pending_count start n) n start
+published_all start now n es p e = sym (append-nil es) ∙ ap (λ (l : List Event). es ++ l) (sym (no_publishes p.fuel n now e)) ∙ p.left

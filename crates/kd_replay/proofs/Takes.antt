@@ -1,5 +1,5 @@
 -- What a take of the desk comes to.
-use Rattle.std.proofs.Common.{◌≡◌, ℕ, true, false, eq-eqb, Option, Some, None, Result, Ok, Err, refl, sym, ap, ◌∙◌}
+use Rattle.std.proofs.Common.{◌≡◌, ℕ, true, false, eq-eqb, [], ◌∷◌, Option, Some, None, Result, Ok, Err, refl, sym, ap, ◌∙◌}
 use Rattle.std.specs.Prelude.{◌==◌}
 use Rattle.kd_types.specs.declared.refusal.Refusal.{Refusal}
 use Rattle.kd_wire.specs.declared.command.Command.{Command}
@@ -16,6 +16,7 @@ use Rattle.kd_world.specs.Answers.{taken_answer, says}
 use Rattle.kd_world.specs.Whole.{Whole, alone, left_and_published, visits_run, whole}
 use Rattle.kd_core.specs.Running.{said}
 use Rattle.kd_replay.specs.Turns.{IsReady, reply_of}
+use Rattle.kd_replay.specs.Events.{events_at_desk, events_held}
 use Rattle.kd_replay.specs.Answering.{reply_with}
 use Rattle.kd_replay.proofs.Replies.{take_replied}
 use Rattle.kd_replay.proofs.Holding.{callers_stay}
@@ -33,6 +34,7 @@ pub record IsTurnedAway (w : World) (n : ℕ) (x : Command) (why : Refusal) : Ty
 pub record IsIn (w : World) (n : ℕ) (x : Command) : Type 0 where
   pub holds : holds_desk (step w (take n x)) n ≡ true
   pub turn : whole w n x ≡ left_and_published (visits_run (step w (take n x)) n) n
+  pub events : events_at_desk w n x ≡ take n x ∷ events_held (step w (take n x)) n
 
 pub answer_of : (w : World) (n : ℕ) (x : Command) (r : Result Plan Refusal) → r ≡ plan_of w n x → said (take n x) (says w (take n x)) ≡ said (take n x) (taken_answer r)
 unfolding says
@@ -55,6 +57,10 @@ turned_by w n x why (Ok p) is r e = let both : answer.Taken ≡ answer.Refused w
 pub turned_away : (w : World) (n : ℕ) (x : Command) (why : Refusal) → IsReady w → said (take n x) (says w (take n x)) ≡ answer.Refused why → IsTurnedAway w n x why
 turned_away w n x why r e = turned_by w n x why (plan_of w n x) refl r e
 
+pub taken_events : (w : World) (n : ℕ) (x : Command) (o : Option Holder) → (step w (take n x)).holder ≡ o → events_at_desk w n x ≡ elim o [ None ↦ take n x ∷ [] | Some h ↦ take n x ∷ events_held (step w (take n x)) n ]
+unfolding events_at_desk
+taken_events w n x o e = ap (λ (o : Option Holder). elim o [ None ↦ take n x ∷ [] | Some h ↦ take n x ∷ events_held (step w (take n x)) n ]) e
+
 in_by : (w : World) (n : ℕ) (x : Command) (r : Result Plan Refusal) → r ≡ plan_of w n x → ((why : Refusal) → said (take n x) (says w (take n x)) ≡ answer.Refused why → ⊥) → IsIn w n x
 unfolding whole
 in_by w n x (Err f) is never = absurd (never f (answer_of w n x (Err f) is))
@@ -63,6 +69,7 @@ in_by w n x (Ok p) is never =
     record {
       holds = ap (λ (o : Option Holder). elim o [ None ↦ false | Some h ↦ h.caller == n ]) h ∙ eq-eqb n n refl;
       turn = ap (λ (o : Option Holder). elim o [ None ↦ alone w (take n x) | Some h ↦ left_and_published (visits_run (step w (take n x)) n) n ]) h;
+      events = taken_events w n x _ h;
     }
 
 pub taken : (w : World) (n : ℕ) (x : Command) → ((why : Refusal) → said (take n x) (says w (take n x)) ≡ answer.Refused why → ⊥) → IsIn w n x

@@ -1,6 +1,7 @@
 -- The visits of whoever holds the desk.
-use Rattle.std.proofs.Common.{◌≡◌, ℕ, zero, suc, ◌+◌, ◌-◌, ◌≤◌, ◌<◌, true, List, [], ◌∷◌, ◌++◌, length, length-append, Option, Some, None, refl, sym, ap, ◌∙◌, eq-eqb, arith}
+use Rattle.std.proofs.Common.{◌≡◌, ℕ, zero, suc, ◌+◌, ◌-◌, ◌≤◌, ◌<◌, true, List, [], ◌∷◌, ◌++◌, length, length-append, append_assoc, Option, Some, None, refl, sym, ap, ◌∙◌, eq-eqb, arith}
 use Rattle.std.specs.Prelude.{option_map}
+use Rattle.std.proofs.lemmas.List.{append-nil}
 use Rattle.kd_types.specs.declared.refusal.Refusal.{Refusal}
 use Rattle.kd_acts.specs.State.{Answer, Hold, Image}
 use Rattle.kd_commands.specs.State.{Desk}
@@ -8,13 +9,16 @@ use Rattle.kd_commands.specs.Plans.{Part}
 use Rattle.kd_commands.specs.Visits.{first_ends, images_in, next_part}
 use Rattle.kd_world.specs.State.{World, Holder, Caller}
 use Rattle.kd_world.specs.Holding.{parts_held, next_visit, holds_desk}
-use Rattle.kd_world.specs.Legal.{visit, leave, is_caller, is_part_at, legal}
+use Rattle.kd_world.specs.Legal.{Event, visit, leave, is_caller, is_part_at, legal}
 use Rattle.kd_world.specs.Pools.{pool_answer}
 use Rattle.kd_world.specs.Step.{holder_after, desk_after, step}
+use Rattle.kd_world.specs.Runs.{world_after}
 use Rattle.kd_world.specs.Whole.{next_seat, part_count, visits, visits_run}
+use Rattle.kd_replay.specs.Events.{visits_of}
 use Rattle.kd_model.proofs.Truth.{no_some}
 use Rattle.kd_world.proofs.Tied.{of}
 use Rattle.kd_replay.proofs.Holding.{callers_stay}
+use Rattle.kd_replay.proofs.Along.{one_more_run}
 
 -- how many visits are left at most
 abbrev pub remaining : World → ℕ
@@ -66,10 +70,12 @@ one_visit d (Some holder) pools callers n s e h =
 pub visited_one : (w : World) (n s : ℕ) → next_seat w ≡ Some s → holds_desk w n ≡ true → IsVisited w n s
 visited_one w n s e h = one_visit w.desk w.holder w.pools w.callers n s e h
 
--- so far: what is left of all visits
-pub record Visiting (start now : World) (n : ℕ) : Type 0 where
+-- so far, behind these events: what is left of all visits
+pub record Visiting (start now : World) (n : ℕ) (es : List Event) : Type 0 where
   pub fuel : ℕ
   pub same : visits fuel n now ≡ visits_run start n
+  pub left : es ++ visits_of fuel n now ≡ visits_of (part_count start) n start
+  pub reached : now ≡ world_after start es
   pub enough : remaining now ≤ fuel
   pub holds : holds_desk now n ≡ true
   pub callers : length now.callers ≡ length start.callers
@@ -78,26 +84,46 @@ pub fuel_at_first : (w : World) (o : Option Holder) → o ≡ w.holder → remai
 fuel_at_first w None e = rw (← e) (omega arith)
 fuel_at_first w (Some h) e = rw (← e) (omega arith)
 
-pub visiting_first : (w : World) (n : ℕ) → holds_desk w n ≡ true → Visiting w w n
-visiting_first w n h = record { fuel = part_count w; same = refl; enough = fuel_at_first w w.holder refl; holds = h; callers = refl }
+pub visiting_first : (w : World) (n : ℕ) → holds_desk w n ≡ true → Visiting w w n []
+unfolding world_after
+visiting_first w n h = record { fuel = part_count w; same = refl; left = refl; reached = refl; enough = fuel_at_first w w.holder refl; holds = h; callers = refl }
 
-go_on : (start now : World) (n s k : ℕ) → visits k n now ≡ visits_run start n → remaining now ≤ k → length now.callers ≡ length start.callers → next_seat now ≡ Some s → IsVisited now n s → Visiting start (step now (visit n s)) n
-unfolding visits
-go_on start now n s zero same enough callers next v = absurd (let bad : ⊥ = omega (arith, v.fewer, enough) in bad)
-go_on start now n s (suc k) same enough callers next v =
-    let opened : visits (suc k) n now ≡ visits k n (step now (visit n s)) = ap (λ (o : Option ℕ). elim o [ None ↦ now | Some t ↦ visits k n (step now (visit n t)) ]) next in
-    record { fuel = k; same = sym opened ∙ same; enough = omega (arith, v.fewer, enough); holds = v.holds; callers = callers_stay now (visit n s) ∙ callers }
+go_on : (start now : World) (n s k : ℕ) (es : List Event) → visits k n now ≡ visits_run start n → es ++ visits_of k n now ≡ visits_of (part_count start) n start → now ≡ world_after start es → remaining now ≤ k
+    → length now.callers ≡ length start.callers → next_seat now ≡ Some s → IsVisited now n s → Visiting start (step now (visit n s)) n (es ++ visit n s ∷ [])
+unfolding visits visits_of
+go_on start now n s zero es same left reached enough callers next v = absurd (let bad : ⊥ = omega (arith, v.fewer, enough) in bad)
+go_on start now n s (suc k) es same left reached enough callers next v =
+    let mid : World = step now (visit n s) in
+    let opened : visits (suc k) n now ≡ visits k n mid = ap (λ (o : Option ℕ). elim o [ None ↦ now | Some t ↦ visits k n (step now (visit n t)) ]) next in
+    let events : visits_of (suc k) n now ≡ visit n s ∷ visits_of k n mid = ap (λ (o : Option ℕ). elim o [ None ↦ [] | Some t ↦ visit n t ∷ visits_of k n (step now (visit n t)) ]) next in
+    record {
+      fuel = k;
+      same = sym opened ∙ same;
+      left = append_assoc es (visit n s ∷ []) (visits_of k n mid) ∙ ap (λ (l : List Event). es ++ l) (sym events) ∙ left;
+      reached = one_more_run start now es (visit n s) reached;
+      enough = omega (arith, v.fewer, enough);
+      holds = v.holds;
+      callers = callers_stay now (visit n s) ∙ callers;
+    }
 
-pub visiting_more : (start now : World) (n s : ℕ) → Visiting start now n → next_seat now ≡ Some s → Visiting start (step now (visit n s)) n
-visiting_more start now n s v next = go_on start now n s v.fuel v.same v.enough v.callers next (visited_one now n s next v.holds)
+pub visiting_more : (start now : World) (n s : ℕ) (es : List Event) → Visiting start now n es → next_seat now ≡ Some s → Visiting start (step now (visit n s)) n (es ++ visit n s ∷ [])
+visiting_more start now n s es v next = go_on start now n s v.fuel es v.same v.left v.reached v.enough v.callers next (visited_one now n s next v.holds)
 
 none_left : (k n : ℕ) (w : World) → next_seat w ≡ None → visits k n w ≡ w
 unfolding visits
 none_left zero n w e = refl
 none_left (suc k) n w e = ap (λ (o : Option ℕ). elim o [ None ↦ w | Some t ↦ visits k n (step w (visit n t)) ]) e
 
-pub visiting_ends : (start now : World) (n : ℕ) → Visiting start now n → next_seat now ≡ None → now ≡ visits_run start n
-visiting_ends start now n v e = sym (none_left v.fuel n now e) ∙ v.same
+no_visits : (k n : ℕ) (w : World) → next_seat w ≡ None → visits_of k n w ≡ []
+unfolding visits_of
+no_visits zero n w e = refl
+no_visits (suc k) n w e = ap (λ (o : Option ℕ). elim o [ None ↦ [] | Some t ↦ visit n t ∷ visits_of k n (step w (visit n t)) ]) e
+
+pub visiting_ends : (start now : World) (n : ℕ) (es : List Event) → Visiting start now n es → next_seat now ≡ None → now ≡ visits_run start n
+visiting_ends start now n es v e = sym (none_left v.fuel n now e) ∙ v.same
+
+pub visited_all : (start now : World) (n : ℕ) (es : List Event) → Visiting start now n es → next_seat now ≡ None → es ≡ visits_of (part_count start) n start
+visited_all start now n es v e = sym (append-nil es) ∙ ap (λ (l : List Event). es ++ l) (sym (no_visits v.fuel n now e)) ∙ v.left
 
 no_part : (w : World) (h : Holder) (o : Option Part) → o ≡ next_visit w h → option_map (λ (p : Part). p.seat) o ≡ None → next_visit w h ≡ None
 no_part w h None is e = sym is

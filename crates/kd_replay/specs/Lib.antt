@@ -10,5 +10,7 @@ pub mod Events
 pub mod Transcript
 -- * how a run's input was read
 pub mod Ends
+-- * what whoever is told of a run has heard
+pub mod Hearing
 -- what the code's answers are replied as
 pub mod Answering

@@ -18,6 +18,10 @@ mod laws;
 mod replay;
 mod replying;
 mod running;
+mod witness;
 
+pub use frames::frame_size;
 pub use laws::{a_frame_has_one_turn, frames_are_run_by_legal_events, frames_have_one_transcript};
-pub use replay::replay_frames;
+pub use replay::{open, replay_frames};
+pub use replying::run_frame;
+pub use witness::{Nobody, Witness};

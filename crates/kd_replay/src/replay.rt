@@ -17,7 +17,7 @@ use std::alloc::{AllocError, Global};
 const CREATOR: u32 = 1000;
 
 /// The bus of a replay: made by [`CREATOR`], with filters of 64 bytes and 8 hashes.
-fn open(alloc: Global) -> Result<World, AllocError>
+pub fn open(alloc: Global) -> Result<World, AllocError>
     ensures world { IfOk result (λ w. w.world ≡ replay_world) }
     ensures ready { IfOk result (λ w. IsReady w.world) }
 {

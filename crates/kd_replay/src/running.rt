@@ -1,6 +1,6 @@
-//! A command, run whole.
+//! A command, run whole. A witness is told of each of its events.
 
-ghost use Rattle.std.specs.Prelude.{◌≡◌, length, true, IfOk, IsTrue, None, OnOk};
+ghost use Rattle.std.specs.Prelude.{◌≡◌, ◌∷◌, [], length, true, IfOk, IsTrue, None, OnOk};
 ghost use Rattle.kd_wire.specs.Ports.{takes_opcode};
 ghost use Rattle.kd_wire.specs.Commands.{opcode_in};
 ghost use Rattle.kd_wire.specs.WellFormed.{is_well_formed};
@@ -9,11 +9,14 @@ ghost use Rattle.kd_world.specs.Holding.{holds_desk};
 ghost use Rattle.kd_world.specs.Legal.{is_caller, is_for_desk, legal, publishes};
 ghost use Rattle.kd_world.specs.Step.{step};
 ghost use Rattle.kd_world.specs.Answers.{says};
-ghost use Rattle.kd_world.specs.Whole.{next_seat, published, visits_run, whole};
+ghost use Rattle.kd_world.specs.Whole.{next_seat, part_count, pending_count, published, visits_run, whole};
 ghost use Rattle.kd_core.specs.Running.{event_of, said};
 ghost use Rattle.kd_replay.specs.Turns.{mode_of, reply_of, slice_number, turn, IsReady};
+ghost use Rattle.kd_replay.specs.Events.{events_at_desk, events_of, publishes_of, visits_of};
 ghost use Rattle.kd_replay.specs.Answering.{reply_with};
+ghost use Rattle.kd_replay.specs.Hearing.{heard_along, Hears};
 
+use crate::witness::Witness;
 use kd_core::{Answer, Event, World};
 use kd_pool::RecvMode;
 use kd_types::{RecvFlags, Refusal, Seat, SliceNo};
@@ -29,23 +32,40 @@ const GREATEST: u64 = 4_294_967_295;
 /// One event. A world that has run as many as it may takes no further one, as if memory were
 /// wanting.
 #[tactic(auto, unfolding(kd_core::specs::Running::stepped))]
-fn step(world: &mut World, alloc: Global, event: Event) -> Result<Answer, AllocError>
+fn step<W: Witness>(
+    world: &mut World,
+    alloc: Global,
+    event: Event,
+    witness: &mut W,
+) -> Result<Answer, AllocError>
     requires { IsTrue (legal world.old.world (event_of event)) }
     ensures next { OnOk result (world.new.world ≡ step world.old.world (event_of event)) }
     ensures answer { IfOk result (λ a. a ≡ said (event_of event) (says world.old.world (event_of event))) }
+    ensures told { OnOk result (Hears (W.has_heard witness.old) (W.has_heard witness.new)
+        (heard_along world.old.world (event_of event ∷ []))) }
 {
     if world.steps() >= MOST_EVENTS {
         return Err(AllocError);
     }
-    world.step(alloc, event)
+    witness.see(&event)?;
+    let answer = world.step(alloc, event)?;
+    witness.hear(&answer)?;
+    Ok(answer)
 }
 
 /// One event whose answer no reply tells.
-fn advance(world: &mut World, alloc: Global, event: Event) -> Result<(), AllocError>
+fn advance<W: Witness>(
+    world: &mut World,
+    alloc: Global,
+    event: Event,
+    witness: &mut W,
+) -> Result<(), AllocError>
     requires { IsTrue (legal world.old.world (event_of event)) }
-    ensures { OnOk result (world.new.world ≡ step world.old.world (event_of event)) }
+    ensures next { OnOk result (world.new.world ≡ step world.old.world (event_of event)) }
+    ensures told { OnOk result (Hears (W.has_heard witness.old) (W.has_heard witness.new)
+        (heard_along world.old.world (event_of event ∷ []))) }
 {
-    step(world, alloc, event)?;
+    step(world, alloc, event, witness)?;
     Ok(())
 }
 
@@ -70,16 +90,23 @@ fn reply_of(answer: Answer) -> Reply
 }
 
 /// Makes all visits of the caller that holds the desk.
-fn visit(world: &mut World, alloc: Global, caller: u64) -> Result<(), AllocError>
+fn visit<W: Witness>(
+    world: &mut World,
+    alloc: Global,
+    caller: u64,
+    witness: &mut W,
+) -> Result<(), AllocError>
     requires caller { IsTrue (is_caller caller) }
     requires holds { holds_desk world.old.world caller ≡ true }
     ensures next { OnOk result (world.new.world ≡ visits_run world.old.world caller) }
     ensures holds { OnOk result (holds_desk world.new.world caller ≡ true) }
     ensures all { OnOk result (next_seat world.new.world ≡ None) }
     ensures callers { OnOk result (length world.new.world.callers ≡ length world.old.world.callers) }
+    ensures told { OnOk result (Hears (W.has_heard witness.old) (W.has_heard witness.new)
+        (heard_along world.old.world (visits_of (part_count world.old.world) caller world.old.world))) }
 {
     'parts: while let Some(seat) = world.next_seat() {
-        advance(world, alloc, Event::Visit { caller, seat })?;
+        advance(world, alloc, Event::Visit { caller, seat }, witness)?;
     }
     Ok(())
 }
@@ -97,25 +124,33 @@ fn publishing(caller: u64, place: (Seat, SliceNo)) -> Event
 }
 
 /// Publishes all that the caller has pending.
-fn publish(world: &mut World, alloc: Global, caller: u64) -> Result<(), AllocError>
+fn publish<W: Witness>(
+    world: &mut World,
+    alloc: Global,
+    caller: u64,
+    witness: &mut W,
+) -> Result<(), AllocError>
     requires caller { IsTrue (is_caller caller) }
     requires ready { IsReady world.old.world }
     ensures next { OnOk result (world.new.world ≡ published world.old.world caller) }
     ensures ready { OnOk result (IsReady world.new.world) }
+    ensures told { OnOk result (Hears (W.has_heard witness.old) (W.has_heard witness.new)
+        (heard_along world.old.world (publishes_of (pending_count world.old.world caller) caller world.old.world))) }
 {
     'pendings: while let Some(place) = world.next_publish(caller) {
-        advance(world, alloc, publishing(caller, place))?;
+        advance(world, alloc, publishing(caller, place), witness)?;
     }
     Ok(())
 }
 
 /// Runs a command at the desk: the take, the visits, the leave and the publishes, unless it is
 /// refused at the take.
-fn run_at_desk(
+fn run_at_desk<W: Witness>(
     world: &mut World,
     alloc: Global,
     caller: u64,
     command: Command,
+    witness: &mut W,
 ) -> Result<Reply, AllocError>
     requires caller { IsTrue (is_caller caller) }
     requires desk { IsTrue (is_for_desk command) }
@@ -124,25 +159,34 @@ fn run_at_desk(
     ensures next { OnOk result (world.new.world ≡ (whole world.old.world caller command).next) }
     ensures reply { IfOk result (λ r. r ≡ reply_of (whole world.old.world caller command).answer) }
     ensures ready { OnOk result (IsReady world.new.world) }
+    ensures told { OnOk result (Hears (W.has_heard witness.old) (W.has_heard witness.new)
+        (heard_along world.old.world (events_at_desk world.old.world caller command))) }
 {
-    let taken = step(world, alloc, Event::Take { caller, command })?;
+    let taken = step(world, alloc, Event::Take { caller, command }, witness)?;
     if let Answer::Refused(refusal) = taken {
         return Ok(Reply::Refused(refusal));
     }
-    visit(world, alloc, caller)?;
-    let answer = step(world, alloc, Event::Leave { caller })?;
-    publish(world, alloc, caller)?;
+    visit(world, alloc, caller, witness)?;
+    let answer = step(world, alloc, Event::Leave { caller }, witness)?;
+    publish(world, alloc, caller, witness)?;
     Ok(reply_of(answer))
 }
 
 /// Runs an event that is a frame's only one.
-fn run_alone(world: &mut World, alloc: Global, event: Event) -> Result<Reply, AllocError>
+fn run_alone<W: Witness>(
+    world: &mut World,
+    alloc: Global,
+    event: Event,
+    witness: &mut W,
+) -> Result<Reply, AllocError>
     requires { IsTrue (legal world.old.world (event_of event)) }
     ensures next { OnOk result (world.new.world ≡ step world.old.world (event_of event)) }
     ensures reply { IfOk result
         (λ r. r ≡ reply_with (said (event_of event) (says world.old.world (event_of event)))) }
+    ensures told { OnOk result (Hears (W.has_heard witness.old) (W.has_heard witness.new)
+        (heard_along world.old.world (event_of event ∷ []))) }
 {
-    let answer = step(world, alloc, event)?;
+    let answer = step(world, alloc, event, witness)?;
     Ok(reply_of(answer))
 }
 
@@ -165,12 +209,13 @@ fn slice_number(number: u64) -> u32
 }
 
 /// Runs a command of a caller whole, with nothing between its events.
-#[tactic(auto, unfolding(crate::specs::Turns::turn))]
-pub fn run(
+#[tactic(auto, unfolding(crate::specs::Turns::turn, crate::specs::Events::events_of))]
+pub fn run<W: Witness>(
     world: &mut World,
     alloc: Global,
     caller: u64,
     command: Command,
+    witness: &mut W,
 ) -> Result<Reply, AllocError>
     requires caller { IsTrue (is_caller caller) }
     requires command { takes_opcode Replay (opcode_in command) ≡ true }
@@ -179,11 +224,13 @@ pub fn run(
     ensures next { OnOk result (world.new.world ≡ (turn world.old.world caller command).next) }
     ensures reply { IfOk result (λ r. r ≡ (turn world.old.world caller command).reply) }
     ensures ready { OnOk result (IsReady world.new.world) }
+    ensures told { OnOk result (Hears (W.has_heard witness.old) (W.has_heard witness.new)
+        (heard_along world.old.world (events_of world.old.world caller command))) }
 {
     match command {
         Command::Recv { flags, limit } => {
             let mode = mode_of(flags, limit);
-            run_alone(world, alloc, Event::Receive { caller, mode })
+            run_alone(world, alloc, Event::Receive { caller, mode }, witness)
         }
         Command::Read { sealed, number } => {
             let number = slice_number(number);
@@ -195,12 +242,13 @@ pub fn run(
                     number,
                     sealed,
                 },
+                witness,
             )
         }
         Command::Free { number } => {
             let number = slice_number(number);
-            run_alone(world, alloc, Event::Free { caller, number })
+            run_alone(world, alloc, Event::Free { caller, number }, witness)
         }
-        command => run_at_desk(world, alloc, caller, command),
+        command => run_at_desk(world, alloc, caller, command, witness),
     }
 }
