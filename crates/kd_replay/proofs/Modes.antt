@@ -1,6 +1,7 @@
 -- What a read command may be run as.
 use Rattle.std.proofs.Common.{◌≡◌, ℕ, zero, suc, ◌≤◌, Bool, true, false, ◌&&◌, List, [], ◌∷◌, Result, Ok, Err, OnOk, refl, sym, ap, ◌∙◌, arith}
-use Rattle.std.specs.Prelude.{is_none, nat_le, ℤ}
+use Rattle.std.specs.Prelude.{is_none, nat_le, ℤ, Some, None, if◌then◌else◌}
+use Rattle.std.specs.Int.RustNames.{FitsSigned}
 use Rattle.std.specs.Int.{w64, cast_unsigned}
 use Rattle.std.proofs.lemmas.Bool.{ltb-false}
 use Rattle.kd_types.specs.declared.flags.RecvFlags.{RecvFlags}
@@ -18,6 +19,7 @@ use Rattle.kd_wire.proofs.Parts.{flawless}
 use Rattle.kd_world.specs.State.{World}
 use Rattle.kd_world.specs.Legal.{receives, reads, frees, is_caller, legal}
 use Rattle.kd_replay.specs.Turns.{IsReady, mode_of}
+use Rattle.kd_replay.specs.Hearing.{IsLimit}
 use Rattle.kd_replay.proofs.Publishes.{nobody}
 
 -- with the two lowest bits at once both are set
@@ -51,6 +53,13 @@ read_may w n number sealed c r = rw (c, nobody w n r.free) refl
 pub free_may : (w : World) (n number : ℕ) → is_caller n ≡ true → IsReady w → legal w (frees n number) ≡ true
 unfolding legal
 free_may w n number c r = rw (c, nobody w n r.free) refl
+
+limit_fits : (b : Bool) (limit : ℤ) → FitsSigned w64 limit → IsLimit (if b then Some limit else None)
+limit_fits true limit fits = fits
+limit_fits false limit fits = tt
+
+pub limit_typed : (flags : RecvFlags) (limit : ℤ) → FitsSigned w64 limit → IsLimit (mode_of flags limit).limit
+limit_typed flags limit fits = limit_fits (has_bits flags.0 4) limit fits
 
 -- what holds holds where a call went well
 pub then_ok : {T E : Type 0} {P Q : Type 0} (r : Result T E) → (P → Q) → OnOk r P → OnOk r Q

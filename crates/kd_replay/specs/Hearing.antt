@@ -1,9 +1,12 @@
 -- What whoever is told of a run has heard.
-use Rattle.std.specs.Prelude.{◌≡◌, true, List, [], ◌∷◌, ◌++◌}
+use Rattle.std.specs.Prelude.{◌≡◌, true, ℤ, List, [], ◌∷◌, ◌++◌, Option, Some, None, ⊤}
+use Rattle.std.specs.Int.{w64}
+use Rattle.std.specs.Int.RustNames.{FitsSigned}
+use Rattle.kd_wire.specs.Typed.{IsTyped}
 use Rattle.kd_core.specs.declared.event.Answer.{Answer}
 use Rattle.kd_core.specs.Running.{said}
 use Rattle.kd_world.specs.State.{World}
-use Rattle.kd_world.specs.Legal.{Event, legal}
+use Rattle.kd_world.specs.Legal.{Event, take, receives, legal}
 use Rattle.kd_world.specs.Answers.{says}
 use Rattle.kd_world.specs.Step.{step}
 
@@ -22,6 +25,19 @@ heard_along w (e ∷ es) =
 abbrev pub Hears : (List Heard → Type 0) → (List Heard → Type 0) → List Heard → Type 0
 Hears before now more = (hs : List Heard) → before hs → now (hs ++ more)
 
--- there is a world in which the event may happen
-abbrev pub MayHappen : Event → Type 0
-MayHappen e = (w : World) × (legal w e ≡ true)
+-- a limit is a signed number of 64 bits
+abbrev pub IsLimit : Option ℤ → Type 0
+IsLimit None = ⊤
+IsLimit (Some limit) = FitsSigned w64 limit
+
+-- what an event has of a command is of its type
+abbrev pub IsTypedEvent : Event → Type 0
+IsTypedEvent (take n x) = IsTyped x
+IsTypedEvent (receives n mode) = IsLimit mode.limit
+IsTypedEvent e = ⊤
+
+-- an event that is legal in some world
+pub record MayHappen (e : Event) : Type 0 where
+  pub world : World
+  pub legal : legal world e ≡ true
+  pub typed : IsTypedEvent e

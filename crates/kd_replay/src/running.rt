@@ -3,6 +3,7 @@
 ghost use Rattle.std.specs.Prelude.{◌≡◌, ◌∷◌, [], length, true, IfOk, IsTrue, None, OnOk};
 ghost use Rattle.kd_wire.specs.Ports.{takes_opcode};
 ghost use Rattle.kd_wire.specs.Commands.{opcode_in};
+ghost use Rattle.kd_wire.specs.Typed.{IsTyped};
 ghost use Rattle.kd_wire.specs.WellFormed.{is_well_formed};
 ghost use Rattle.kd_wire.specs.declared.port.Port.TheVariants.{Replay};
 ghost use Rattle.kd_world.specs.Holding.{holds_desk};
@@ -14,7 +15,7 @@ ghost use Rattle.kd_core.specs.Running.{event_of, said};
 ghost use Rattle.kd_replay.specs.Turns.{mode_of, reply_of, slice_number, turn, IsReady};
 ghost use Rattle.kd_replay.specs.Events.{events_at_desk, events_of, publishes_of, visits_of};
 ghost use Rattle.kd_replay.specs.Answering.{reply_with};
-ghost use Rattle.kd_replay.specs.Hearing.{heard_along, Hears};
+ghost use Rattle.kd_replay.specs.Hearing.{heard_along, Hears, IsTypedEvent};
 
 use crate::witness::Witness;
 use kd_core::{Answer, Event, World};
@@ -38,7 +39,8 @@ fn step<W: Witness>(
     event: Event,
     witness: &mut W,
 ) -> Result<Answer, AllocError>
-    requires { IsTrue (legal world.old.world (event_of event)) }
+    requires may { IsTrue (legal world.old.world (event_of event)) }
+    requires typed { IsTypedEvent (event_of event) }
     ensures next { OnOk result (world.new.world ≡ step world.old.world (event_of event)) }
     ensures answer { IfOk result (λ a. a ≡ said (event_of event) (says world.old.world (event_of event))) }
     ensures told { OnOk result (Hears (W.has_heard witness.old) (W.has_heard witness.new)
@@ -60,7 +62,8 @@ fn advance<W: Witness>(
     event: Event,
     witness: &mut W,
 ) -> Result<(), AllocError>
-    requires { IsTrue (legal world.old.world (event_of event)) }
+    requires may { IsTrue (legal world.old.world (event_of event)) }
+    requires typed { IsTypedEvent (event_of event) }
     ensures next { OnOk result (world.new.world ≡ step world.old.world (event_of event)) }
     ensures told { OnOk result (Hears (W.has_heard witness.old) (W.has_heard witness.new)
         (heard_along world.old.world (event_of event ∷ []))) }
@@ -155,6 +158,7 @@ fn run_at_desk<W: Witness>(
     requires caller { IsTrue (is_caller caller) }
     requires desk { IsTrue (is_for_desk command) }
     requires form { IsTrue (is_well_formed command) }
+    requires typed { IsTyped command }
     requires ready { IsReady world.old.world }
     ensures next { OnOk result (world.new.world ≡ (whole world.old.world caller command).next) }
     ensures reply { IfOk result (λ r. r ≡ reply_of (whole world.old.world caller command).answer) }
@@ -179,7 +183,8 @@ fn run_alone<W: Witness>(
     event: Event,
     witness: &mut W,
 ) -> Result<Reply, AllocError>
-    requires { IsTrue (legal world.old.world (event_of event)) }
+    requires may { IsTrue (legal world.old.world (event_of event)) }
+    requires typed { IsTypedEvent (event_of event) }
     ensures next { OnOk result (world.new.world ≡ step world.old.world (event_of event)) }
     ensures reply { IfOk result
         (λ r. r ≡ reply_with (said (event_of event) (says world.old.world (event_of event)))) }
@@ -220,6 +225,7 @@ pub fn run<W: Witness>(
     requires caller { IsTrue (is_caller caller) }
     requires command { takes_opcode Replay (opcode_in command) ≡ true }
     requires form { IsTrue (is_well_formed command) }
+    requires typed { IsTyped command }
     requires ready { IsReady world.old.world }
     ensures next { OnOk result (world.new.world ≡ (turn world.old.world caller command).next) }
     ensures reply { IfOk result (λ r. r ≡ (turn world.old.world caller command).reply) }

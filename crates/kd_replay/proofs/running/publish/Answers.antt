@@ -3,7 +3,7 @@ use Rattle.kd_world.specs.State.{World}
 use Rattle.kd_world.specs.Legal.{Event, legal, publishes}
 use Rattle.kd_world.specs.Step.{step}
 use Rattle.kd_world.specs.Whole.{pending_count}
-use Rattle.kd_replay.specs.Hearing.{Hears, heard_along}
+use Rattle.kd_replay.specs.Hearing.{Hears, IsTypedEvent, heard_along}
 use Rattle.kd_replay.proofs.Along.{more_heard, none_heard}
 use Rattle.kd_replay.proofs.Publishes.{Publishing, publishing_first, publishing_more, publishing_ends, published_all, publish_may, one_fewer}
 use Rattle.kd_replay.proofs.running.publish.Goals as goal
@@ -11,10 +11,13 @@ use Rattle.kd_replay.proofs.running.publish.Goals as goal
 pub pendings-init : goal.pendings-init
 pendings-init g c = ([], publishing_first c.args.world.now.world c.args.caller c.requires.ready, none_heard c.args.world.now.world _)
 
-pub advance-requires : goal.advance-requires
-advance-requires g c =
+pub advance-requires-clause-may : goal.advance-requires-clause-may
+advance-requires-clause-may g c =
     subst (λ (e : Event). legal c.pendings.world.world e ≡ true) (sym c.publishing.ensures)
     (publish_may c.pendings.world.world c.args.caller c.in-Some.place.0 c.in-Some.place.1 c.requires.caller c.pendings.invariant.1.ready (sym c.next_publish.ensures ∙ c.in-Some.is))
+
+pub advance-requires-clause-typed : goal.advance-requires-clause-typed
+advance-requires-clause-typed g c = subst IsTypedEvent (sym c.publishing.ensures) tt
 
 pub pendings-preserved : goal.pendings-preserved
 pendings-preserved g c =

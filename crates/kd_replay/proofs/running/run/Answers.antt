@@ -2,22 +2,30 @@ use Rattle.std.proofs.Common.{rules, ◌≡◌, true, sym, subst, ◌∙◌}
 use Rattle.kd_acts.specs.declared.receive.RecvMode.{RecvMode}
 use Rattle.kd_world.specs.Legal.{receives, legal}
 use Rattle.kd_replay.specs.Turns.{IsReady, mode_of}
+use Rattle.kd_wire.specs.Typed.{IsTyped}
+use Rattle.kd_replay.specs.Hearing.{IsLimit}
 use Rattle.kd_replay.proofs.Holding.{ready_behind_receive, ready_behind_read, ready_behind_free}
-use Rattle.kd_replay.proofs.Modes.{receive_may, read_may, free_may, then_ok}
+use Rattle.kd_replay.proofs.Modes.{limit_typed, receive_may, read_may, free_may, then_ok}
 use Rattle.kd_wire.proofs.Formed.{of_answer}
 use Rattle.kd_replay.proofs.Replies.{free_turn, read_turn, receive_turn}
 use Rattle.kd_replay.proofs.running.run.Goals as goal
 
-pub run_alone-requires : goal.run_alone-requires
-run_alone-requires g c =
+pub run_alone-requires-clause-may : goal.run_alone-requires-clause-may
+run_alone-requires-clause-may g c =
     subst (λ (m : RecvMode). legal c.args.world.now.world (receives c.args.caller m) ≡ true) (sym c.mode_of-mode.ensures)
     (receive_may c.args.world.now.world c.args.caller c.args.command c.in-Recv.flags c.in-Recv.limit _ c.requires.caller c.requires.ready c.requires.form c.in-Recv.is)
 
-pub run_alone-requires-in-Read : goal.run_alone-requires-in-Read
-run_alone-requires-in-Read g c = read_may c.args.world.now.world c.args.caller c.slice_number-number.result c.in-Read.sealed c.requires.caller c.requires.ready
+pub run_alone-requires-clause-typed : goal.run_alone-requires-clause-typed
+run_alone-requires-clause-typed g c =
+    let mode : c.mode_of-mode.result ≡ mode_of c.in-Recv.flags c.in-Recv.limit = search (rules, c.mode_of-mode.ensures) in
+    subst (λ (m : RecvMode). IsLimit m.limit) (sym mode)
+    (limit_typed c.in-Recv.flags c.in-Recv.limit (subst IsTyped c.in-Recv.is c.requires.typed).signed)
 
-pub run_alone-requires-in-Free : goal.run_alone-requires-in-Free
-run_alone-requires-in-Free g c = free_may c.args.world.now.world c.args.caller c.slice_number-number-in-Free.result c.requires.caller c.requires.ready
+pub run_alone-requires-in-Read-clause-may : goal.run_alone-requires-in-Read-clause-may
+run_alone-requires-in-Read-clause-may g c = read_may c.args.world.now.world c.args.caller c.slice_number-number.result c.in-Read.sealed c.requires.caller c.requires.ready
+
+pub run_alone-requires-in-Free-clause-may : goal.run_alone-requires-in-Free-clause-may
+run_alone-requires-in-Free-clause-may g c = free_may c.args.world.now.world c.args.caller c.slice_number-number-in-Free.result c.requires.caller c.requires.ready
 
 pub returns-in-Recv-clause-ready : goal.returns-in-Recv-clause-ready
 returns-in-Recv-clause-ready g c = then_ok c.run_alone.result (λ e. subst IsReady (sym e) (ready_behind_receive c.args.world.now.world c.args.caller c.mode_of-mode.result c.requires.ready)) c.run_alone.ensures.next

@@ -15,8 +15,8 @@ use Rattle.kd_replay.proofs.Takes.{taken, take_may, taken_events, turned_away}
 use Rattle.kd_replay.proofs.Visits.{leave_may}
 use Rattle.kd_replay.proofs.running.run_at_desk.Goals as goal
 
-pub step-requires : goal.step-requires
-step-requires g c = take_may c.args.world.now.world c.args.caller c.args.command c.requires.caller c.requires.ready c.requires.desk c.requires.form
+pub step-requires-clause-may : goal.step-requires-clause-may
+step-requires-clause-may g c = take_may c.args.world.now.world c.args.caller c.args.command c.requires.caller c.requires.ready c.requires.desk c.requires.form
 
 pub returns-in-Refused-clause-next : goal.returns-in-Refused-clause-next
 returns-in-Refused-clause-next g c =
@@ -38,8 +38,8 @@ visit-requires g c =
     let inside = taken c.args.world.now.world c.args.caller c.args.command (λ why e. c.in_default.not-Refused why (c.in_ok-taken.ensures.answer ∙ e)) in
     record { caller = c.requires.caller; holds = subst (λ (w : World). holds_desk w c.args.caller ≡ true) (sym c.in_ok-taken.ensures.next) inside.holds }
 
-pub step-requires-2 : goal.step-requires-2
-step-requires-2 g c = leave_may c.visit.new.world.world c.args.caller c.in_ok-visit.ensures.all c.in_ok-visit.ensures.holds c.requires.caller
+pub step-requires-2-clause-may : goal.step-requires-2-clause-may
+step-requires-2-clause-may g c = leave_may c.visit.new.world.world c.args.caller c.in_ok-visit.ensures.all c.in_ok-visit.ensures.holds c.requires.caller
 
 pub publish-requires : goal.publish-requires
 publish-requires g c =

@@ -9,8 +9,8 @@ use Rattle.kd_replay.proofs.running.visit.Goals as goal
 pub parts-init : goal.parts-init
 parts-init g c = ([], visiting_first c.args.world.now.world c.args.caller c.requires.holds, none_heard c.args.world.now.world _)
 
-pub advance-requires : goal.advance-requires
-advance-requires g c = (visited_one c.parts.world.world c.args.caller c.in-Some.seat (sym c.next_seat.ensures ∙ c.in-Some.is) c.parts.invariant.1.holds).may c.requires.caller
+pub advance-requires-clause-may : goal.advance-requires-clause-may
+advance-requires-clause-may g c = (visited_one c.parts.world.world c.args.caller c.in-Some.seat (sym c.next_seat.ensures ∙ c.in-Some.is) c.parts.invariant.1.holds).may c.requires.caller
 
 pub parts-preserved : goal.parts-preserved
 parts-preserved g c =
