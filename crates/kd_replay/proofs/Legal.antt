@@ -189,15 +189,21 @@ turn_good w n (cmd.Seal bytes) c r run f = at_the_desk w n _ (record { caller = 
 turn_good w n (cmd.Unseal number) c r run f = at_the_desk w n _ (record { caller = c; ready = r; desk = refl; form = f })
 turn_good w n (cmd.Enter creds) c r run f = at_the_desk w n _ (record { caller = c; ready = r; desk = refl; form = f })
 
+ends_of : (w : World) (es : List Event) (rs : List Reply) (end : World) → IsRunBy w es rs end → Ends w es end
+ends_of w es rs end r = record { legal = r.legal; ends = r.ends }
+
+-- the events of a frame end in the world behind it
+pub frame_ends : (w : World) (frame : List ℕ) (es : List Event) (t : Turn) → IsFrameRun w frame es t → Ends w es t.next
+frame_ends w frame es t (inl ((why, e, is), none)) =
+    subst (λ (l : List Event). Ends w l t.next) (sym none) (subst (λ (u : Turn). Ends w [] u.next) (sym is) (ends_of w [] [] w (here w)))
+frame_ends w frame es t (inr (caller, command, read, is, same, path)) = ends_of w es (t.reply ∷ []) t.next path
+
 -- one frame
 record HasRun (w : World) (frame : List ℕ) (t : Turn) : Type 0 where
   events : List Event
   run : IsFrameRun w frame events t
   path : Ends w events t.next
   ready : IsReady t.next
-
-ends_of : (w : World) (es : List Event) (rs : List Reply) (end : World) → IsRunBy w es rs end → Ends w es end
-ends_of w es rs end r = record { legal = r.legal; ends = r.ends }
 
 -- a frame that is no refused one is run by the events of its command
 pub command_run : (w : World) (frame : List ℕ) (t : Turn) (caller : ℕ) (command : Command) → IsReady w → IsRead frame caller command → t ≡ turn w caller command → IsFrameRun w frame (events_of w caller command) t
@@ -214,7 +220,7 @@ frame_good w frame t r (inr (caller, command, read, is)) =
     let path : IsRunBy w es (t.reply ∷ []) t.next = subst (λ (u : Turn). IsRunBy w es (u.reply ∷ []) u.next) (sym is) g.path in
     record { events = es; run = command_run w frame t caller command r read is; path = ends_of w es (t.reply ∷ []) t.next path; ready = subst (λ (u : Turn). IsReady u.next) (sym is) g.ready }
 
-ends_join : (w mid end : World) (es fs : List Event) → Ends w es mid → Ends mid fs end → Ends w (es ++ fs) end
+pub ends_join : (w mid end : World) (es fs : List Event) → Ends w es mid → Ends mid fs end → Ends w (es ++ fs) end
 ends_join w mid end es fs a b = record {
   legal = legal_append w es fs a.legal (subst (λ (x : World). all_legal x fs ≡ true) a.ends b.legal);
   ends = b.ends ∙ ap (λ (x : World). world_after x fs) a.ends ∙ sym (runs_append w es fs);

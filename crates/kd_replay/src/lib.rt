@@ -20,6 +20,7 @@ mod replying;
 mod running;
 mod witness;
 
+pub use fitting::{is_answer, is_short};
 pub use frames::frame_size;
 pub use laws::{a_frame_has_one_turn, frames_are_run_by_legal_events, frames_have_one_transcript};
 pub use replay::{open, replay_frames};
