@@ -11,7 +11,8 @@ use Rattle.kd_types.specs.Flags.{has_bits}
 use Rattle.kd_wire.specs.Commands.{bit}
 use Rattle.kd_acts.specs.declared.receive.RecvMode.{RecvMode}
 use Rattle.kd_world.specs.Legal.{Event, visit, leave, publishes, receives, reads, frees, is_caller}
-use Rattle.kd_trace.specs.Items.{IsEventItem, IsLimit, MayStand, event_entry, limit_word, mode_flags}
+use Rattle.kd_replay.specs.Hearing.{IsLimit}
+use Rattle.kd_trace.specs.Items.{IsEventItem, MayStand, event_entry, limit_word, mode_flags}
 use Rattle.kd_trace.specs.Reading.{event_in, free_in, leave_in, mode_in, publish_in, read_in, receive_in, receives_in, visit_in}
 use Rattle.kd_trace.proofs.Bodies.{either, one_back, passes, three_back, two_back}
 

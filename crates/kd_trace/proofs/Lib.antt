@@ -10,3 +10,5 @@ pub mod Runs
 pub mod Refusals
 pub mod Checks
 pub mod OneReading
+pub mod Written
+pub mod Records

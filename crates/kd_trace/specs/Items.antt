@@ -1,7 +1,6 @@
 -- The items of a trace: an event, and what it was answered. Each has one spelling.
 use Rattle.std.specs.Prelude.{◌≡◌, ℕ, ◌+◌, ◌*◌, ◌^◌, ◌<◌, true, List, [], ◌∷◌, ◌++◌, Option, Some, None, is_some, Ok, IsTrue, ⊤, ℤ}
 use Rattle.std.specs.Int.{w64, cast_unsigned}
-use Rattle.std.specs.Int.RustNames.{FitsSigned}
 use Rattle.kd_item.specs.Spelling.{Entry, words, word}
 use Rattle.kd_wire.specs.declared.command.Command.{Command}
 use Rattle.kd_wire.specs.declared.port.Port.TheVariants.{Replay}
@@ -14,6 +13,7 @@ use Rattle.kd_wire.specs.ReplyReading.{reply_in, refusal_from}
 use Rattle.kd_wire.specs.Typed.{IsTyped}
 use Rattle.kd_acts.specs.declared.receive.RecvMode.{RecvMode}
 use Rattle.kd_world.specs.Legal.{Event, take, visit, leave, publishes, receives, reads, frees, is_caller}
+use Rattle.kd_replay.specs.Hearing.{IsLimit}
 use Rattle.kd_trace.specs.declared.outcome.Outcome.{Outcome}
 use Rattle.kd_trace.specs.declared.outcome.Outcome.TheVariants.{Taken, Published, Gone, Freed, Visited, Refused, Slice, VisitRefused, Left, Got, Bytes}
 
@@ -57,11 +57,6 @@ pub record IsReplayed (x : Command) : Type 0 where
   pub form : IsWellFormed x
   pub typed : IsTyped x
   pub run : takes_opcode Replay (opcode_in x) ≡ true
-
--- a limit is a signed number of 64 bits
-abbrev pub IsLimit : Option ℤ → Type 0
-IsLimit None = ⊤
-IsLimit (Some limit) = FitsSigned w64 limit
 
 -- what stands beside the caller is of its kind: a seat is below 64, and a slice number has 32 bits
 abbrev pub HasForm : Event → Type 0

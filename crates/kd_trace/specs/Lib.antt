@@ -12,9 +12,13 @@ pub mod Words
 pub mod Texts
 -- * how a check ends, and what was read and written then
 pub mod Ends
+-- * the trace of the run that frames make, and how a record of them ends
+pub mod Record
 -- events and answers as they are read
 pub mod Reading
 -- what a reader finds at the front of bytes
 pub mod Fronts
 -- what a checker keeps of a run so far
 pub mod Judging
+-- what a recorder has written down of what it was told
+pub mod Recorded

@@ -11,3 +11,7 @@ AreOnly only (w ∷ v ∷ ws) = ⊥
 -- the one word of a check
 abbrev pub AreCheck : List (Bor (List ℕ)) → Type 0
 AreCheck words = AreOnly (codes "check") words
+
+-- the one word of a record
+abbrev pub AreRecord : List (Bor (List ℕ)) → Type 0
+AreRecord words = AreOnly (codes "record") words

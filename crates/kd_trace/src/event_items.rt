@@ -14,25 +14,25 @@ use kd_wire::{Command, Cut, Port, cut, read_command};
 use std::alloc::{AllocError, Global};
 
 /// The kinds of items that are events.
-const TAKE: u64 = 32;
+pub(crate) const TAKE: u64 = 32;
 
-const VISIT: u64 = 33;
+pub(crate) const VISIT: u64 = 33;
 
-const LEAVE: u64 = 34;
+pub(crate) const LEAVE: u64 = 34;
 
-const PUBLISH: u64 = 35;
+pub(crate) const PUBLISH: u64 = 35;
 
-const RECEIVE: u64 = 36;
+pub(crate) const RECEIVE: u64 = 36;
 
-const READ: u64 = 37;
+pub(crate) const READ: u64 = 37;
 
-const FREE: u64 = 38;
+pub(crate) const FREE: u64 = 38;
 
 /// One more than the greatest slice number that an event can name.
-const NUMBERS: u64 = 1 << 32;
+pub(crate) const NUMBERS: u64 = 1 << 32;
 
 /// The seats of a bus.
-const SEATS: u64 = 64;
+pub(crate) const SEATS: u64 = 64;
 
 /// Whether a caller has this number.
 fn is_caller(number: u64) -> bool

@@ -77,7 +77,7 @@ fn is_bytes(outcome: &Outcome, bytes: &Blob) -> bool
 }
 
 /// Whether a trace has this answer, to an event while the command of this number is run.
-fn is_outcome(outcome: &Outcome, number: u64, answer: &Answer) -> bool
+pub fn is_outcome(outcome: &Outcome, number: u64, answer: &Answer) -> bool
     ensures { IsTrue result ↔ (outcome.now ≡ outcome_of number answer.now) }
 {
     match answer {
@@ -97,7 +97,7 @@ fn is_outcome(outcome: &Outcome, number: u64, answer: &Answer) -> bool
 }
 
 /// The number of the command that an event gives, else the one before.
-fn number_with(event: &Event, number: u64) -> u64
+pub fn number_with(event: &Event, number: u64) -> u64
     ensures { result ≡ number_with (event_of event.now) number }
 {
     match event {

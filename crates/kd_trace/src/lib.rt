@@ -22,12 +22,16 @@ mod laws;
 mod outcome;
 mod outcome_items;
 mod pairs;
+mod record;
+mod recording;
 mod telling;
 mod verdict;
 mod words;
+mod writing;
 
 pub use checking::check_trace;
 pub use laws::{a_trace_has_one_reading, a_trace_has_one_verdict, what_breaks_is_no_trace};
 pub use outcome::Outcome;
+pub use record::record_run;
 pub use telling::check_run;
 pub use verdict::{TraceError, Verdict};

@@ -11,19 +11,19 @@ use kd_wire::{Reply, head, read_reply};
 use std::alloc::{AllocError, Global};
 
 /// The kinds of items that are answers.
-const PLAIN: u64 = 48;
+pub(crate) const PLAIN: u64 = 48;
 
-const REFUSED: u64 = 49;
+pub(crate) const REFUSED: u64 = 49;
 
-const SLICE: u64 = 50;
+pub(crate) const SLICE: u64 = 50;
 
-const VISIT_REFUSED: u64 = 51;
+pub(crate) const VISIT_REFUSED: u64 = 51;
 
-const LEFT: u64 = 52;
+pub(crate) const LEFT: u64 = 52;
 
-const GOT: u64 = 53;
+pub(crate) const GOT: u64 = 53;
 
-const BYTES: u64 = 54;
+pub(crate) const BYTES: u64 = 54;
 
 /// One more than the greatest slice number that an answer can name.
 const NUMBERS: u64 = 1 << 32;

@@ -26,7 +26,7 @@ pub struct PairRead {
 }
 
 /// Whose event it is.
-fn caller_of(event: &Event) -> u64
+pub fn caller_of(event: &Event) -> u64
     ensures { result ≡ caller_of (event_of event.now) }
 {
     match event {
@@ -56,7 +56,7 @@ fn first_event(alloc: Global, bytes: &[u8]) -> Result<Option<(Event, usize)>, Al
 }
 
 /// The answer to an event of this caller at the front of the bytes, and how many bytes it takes.
-fn first_outcome(
+pub fn first_outcome(
     alloc: Global,
     caller: u64,
     bytes: &[u8],
