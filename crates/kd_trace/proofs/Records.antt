@@ -1,26 +1,23 @@
 -- What a record of frames has written.
-use Rattle.std.proofs.Common.{◌≡◌, ℕ, ◌+◌, true, List, [], ◌∷◌, ◌++◌, length, take, drop, Option, append_assoc, length-append, refl, sym, ap, subst, ◌∙◌, inl, inr, arith}
-use Rattle.std.specs.Prelude.{◌&&◌}
+use Rattle.std.proofs.Common.{◌≡◌, ℕ, ◌+◌, true, List, [], ◌∷◌, ◌++◌, length, take, drop, Option, append_assoc, refl, sym, ap, subst, ◌∙◌, arith}
 use Rattle.std.specs.Io.KnownBytes.{Appends}
 use Rattle.std.proofs.lemmas.List.{append-nil, take_all}
 use Rattle.std.proofs.lemmas.Grind.{flat_map-append}
 use Rattle.std.proofs.Math.Seq.{take-append-add}
 use Rattle.kd_model.proofs.Truth.{both_true}
 use Rattle.kd_outside.proofs.Known.{appends_more, appends_nothing}
-use Rattle.kd_core.specs.Running.{said}
 use Rattle.kd_world.specs.State.{World}
 use Rattle.kd_world.specs.Legal.{Event, legal}
-use Rattle.kd_world.specs.Answers.{says}
 use Rattle.kd_world.specs.Step.{step}
 use Rattle.kd_world.specs.Runs.{all_legal, world_after}
 use Rattle.kd_replay.specs.Turns.{IsReady, Turn, replay_world}
 use Rattle.kd_replay.specs.Frames.{IsCut, IsFrame, joined}
 use Rattle.kd_replay.specs.Transcript.{AreRunBy, Ends, IsFrameRun}
-use Rattle.kd_replay.specs.Hearing.{Heard, Hears, heard_along}
+use Rattle.kd_replay.specs.Hearing.{heard_along}
 use Rattle.kd_replay.proofs.Legal.{ends_join, frame_ends}
 use Rattle.kd_replay.proofs.Written.{cut_more, length-joined_more}
-use Rattle.kd_trace.specs.Trace.{ArePairs, IsPair, Pair, pair_bytes, trace_bytes}
-use Rattle.kd_trace.specs.Right.{AreRight, opening, outcome, outcome_of}
+use Rattle.kd_trace.specs.Trace.{ArePairs, Pair, pair_bytes, trace_bytes}
+use Rattle.kd_trace.specs.Right.{AreRight, outcome}
 use Rattle.kd_trace.specs.Judging.{HoldsNumber, IsNumberOf, number_with}
 use Rattle.kd_trace.specs.Record.{IsRecord, WritesFront, pairs_along}
 use Rattle.kd_trace.specs.Recorded.{IsWritten, pairs_heard}

@@ -1,7 +1,6 @@
 -- Items that are written, and what a recorder has written.
-use Rattle.std.proofs.Common.{◌≡◌, ℕ, ◌<◌, ◌^◌, true, List, [], ◌∷◌, ◌++◌, append_assoc, refl, sym, ap, subst, ◌∙◌}
+use Rattle.std.proofs.Common.{◌≡◌, ℕ, true, List, [], ◌∷◌, ◌++◌, append_assoc, refl, sym, ap, subst, ◌∙◌}
 use Rattle.std.specs.Prelude.{◌&&◌, is_none, not}
-use Rattle.std.proofs.lemmas.List.{append-nil}
 use Rattle.kd_model.proofs.Truth.{both_true}
 use Rattle.kd_item.specs.Spelling.{Fits}
 use Rattle.kd_wire.specs.Commands.{opcode_in}
@@ -10,15 +9,14 @@ use Rattle.kd_wire.specs.declared.command.Command.{Command}
 use Rattle.kd_wire.specs.declared.command.Command.TheVariants as cmd
 use Rattle.kd_wire.specs.declared.port.Port.TheVariants.{Replay}
 use Rattle.kd_wire.specs.WellFormed.{is_well_formed}
-use Rattle.kd_wire.specs.Refusals.{IsWellFormed}
 use Rattle.kd_wire.proofs.Formed.{formed}
 use Rattle.kd_world.specs.State.{World}
 use Rattle.kd_world.specs.Holding.{holds_desk}
 use Rattle.kd_world.specs.Legal.{Event, take, visit, leave, publishes, receives, reads, frees, is_caller, is_for_desk, legal}
 use Rattle.kd_core.specs.declared.event.Answer.{Answer}
 use Rattle.kd_replay.specs.Hearing.{Heard, IsTypedEvent, MayHappen}
-use Rattle.kd_trace.specs.Items.{IsOutcome, IsReplayed, MayStand, caller_of, outcome_entry}
-use Rattle.kd_trace.specs.Trace.{ArePairs, IsPair, Pair, event_bytes, outcome_bytes, pair_bytes, trace_bytes}
+use Rattle.kd_trace.specs.Items.{IsOutcome, MayStand, caller_of, outcome_entry}
+use Rattle.kd_trace.specs.Trace.{ArePairs, IsPair, Pair, event_bytes, outcome_bytes, trace_bytes}
 use Rattle.kd_trace.specs.Right.{outcome_of}
 use Rattle.kd_trace.specs.Judging.{number_with}
 use Rattle.kd_trace.specs.Recorded.{HasPlace, IsAwaited, IsWritten, number_heard, pairs_heard}
