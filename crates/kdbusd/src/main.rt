@@ -1,18 +1,23 @@
 //! The program `kdbusd`: a message bus in user space after kdbus.
 //!
 //! `kdbusd replay` reads recorded command frames from the standard input and writes the replies to
-//! the standard output.
+//! the standard output. `kdbusd check` reads the trace of a run, and writes whether the run was
+//! legal and was answered as it had to be.
 #![tactic(auto)]
 
+mod choice;
 mod run;
 mod words;
 
+use choice::Pick;
 use kd_outside::{StdSink, StdSource};
+use kd_trace::check_run;
 use kd_types::Status;
 pub use run::replay_run;
 use std::alloc::{AllocError, Global};
 use std::process::ExitCode;
 use std::{env, io};
+use words::pick;
 
 /// Runs over the standard streams, and hands on what was gathered for the standard output.
 fn run_over_streams(
@@ -27,7 +32,11 @@ fn run_over_streams(
     }
     let mut source = StdSource::make(input);
     let mut sink = StdSink::make(alloc, output)?;
-    let status = replay_run(alloc, &texts, &mut source, &mut sink);
+    let status = match pick(&texts) {
+        Pick::Replay => replay_run(alloc, &texts, &mut source, &mut sink),
+        Pick::Check => check_run(alloc, &texts, &mut source, &mut sink),
+        Pick::Other => Status::BadWords,
+    };
     if sink.finish().is_err() {
         return Ok(Status::WriteFault);
     }

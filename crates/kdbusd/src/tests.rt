@@ -58,7 +58,14 @@ fn a_run_ends_where_its_source_or_its_sink_fails(rt: HostRuntime) -> Result<(), 
 #[test]
 fn other_words_than_replay_read_and_write_nothing(rt: HostRuntime) -> Result<(), Fail> {
     let alloc = rt.alloc();
-    let words: [&[&str]; 5] = [&[], &["x"], &["replay", "x"], &["--help"], &["replay "]];
+    let words: [&[&str]; 6] = [
+        &[],
+        &["x"],
+        &["replay", "x"],
+        &["--help"],
+        &["replay "],
+        &["check"],
+    ];
     for list in words {
         let (mut source, mut sink) = (source_of(alloc, &[], &[1])?, sink_of(alloc, &[1])?);
         assert_eq!(rt;
