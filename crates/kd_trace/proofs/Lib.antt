@@ -12,3 +12,4 @@ pub mod Checks
 pub mod OneReading
 pub mod Written
 pub mod Records
+pub mod OnePlace

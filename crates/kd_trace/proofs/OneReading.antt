@@ -72,7 +72,7 @@ one_event e f m n same = elim (take_or_not e) [
 
 -- ---- one pair at the front
 
-one_item : (i j : Entry) (xs ys : List ℕ) → Fits i → Fits j → spelling i ++ xs ≡ spelling j ++ ys → (i ≡ j) × (xs ≡ ys)
+pub one_item : (i j : Entry) (xs ys : List ℕ) → Fits i → Fits j → spelling i ++ xs ≡ spelling j ++ ys → (i ≡ j) × (xs ≡ ys)
 one_item i j xs ys f g e =
     let both : (i, xs) ≡ (j, ys) = same_some (i, xs) (j, ys) (sym (item_again i xs f) ∙ ap item_at e ∙ item_again j ys g) in
     (ap (λ (p : Entry × List ℕ). p.0) both, ap (λ (p : Entry × List ℕ). p.1) both)
@@ -80,7 +80,7 @@ one_item i j xs ys f g e =
 same_pair : (p q : Pair) → p.event ≡ q.event → p.outcome ≡ q.outcome → p ≡ q
 same_pair p q e o = ap (λ (x : Event). record { event = x; outcome = p.outcome }) e ∙ ap (λ (x : Outcome). record { event = q.event; outcome = x }) o
 
-one_pair : (p q : Pair) (xs ys : List ℕ) → IsPair p → IsPair q → pair_bytes p ++ xs ≡ pair_bytes q ++ ys → (p ≡ q) × (xs ≡ ys)
+pub one_pair : (p q : Pair) (xs ys : List ℕ) → IsPair p → IsPair q → pair_bytes p ++ xs ≡ pair_bytes q ++ ys → (p ≡ q) × (xs ≡ ys)
 one_pair p q xs ys a b e =
     let n = caller_of p.event in
     let left = outcome_bytes n p.outcome ++ xs in

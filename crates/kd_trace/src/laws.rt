@@ -18,6 +18,12 @@ pub fn what_breaks_is_no_trace()
         → ⊥ }
 {}
 
+/// And they break at one place.
+pub fn bytes_break_at_one_place()
+    ensures { (bytes : List ℕ) (at place : ℕ) → BreaksAt bytes at → BreaksAt bytes place
+        → at ≡ place }
+{}
+
 /// A trace is right, or has one first pair that isn't.
 #[tactic(auto, using(crate::proofs::OneReading::one_verdict))]
 pub fn a_trace_has_one_verdict()

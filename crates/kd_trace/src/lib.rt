@@ -30,7 +30,10 @@ mod words;
 mod writing;
 
 pub use checking::check_trace;
-pub use laws::{a_trace_has_one_reading, a_trace_has_one_verdict, what_breaks_is_no_trace};
+pub use laws::{
+    a_trace_has_one_reading, a_trace_has_one_verdict, bytes_break_at_one_place,
+    what_breaks_is_no_trace,
+};
 pub use outcome::Outcome;
 pub use record::record_run;
 pub use telling::check_run;
