@@ -9,7 +9,8 @@
 //! A command is run as one take of the desk, all its visits, the leave, and a publishing of each
 //! message that its caller has pending; a receive, a read and a free are one event each. Nothing
 //! comes between the events of a frame. `specs/` has the transcript of a list of frames, and
-//! [`replay_frames`] writes it.
+//! [`replay_frames`] writes it. [`run_frame`] runs one frame, and tells a [`Witness`] of each event
+//! and its answer.
 #![tactic(auto)]
 
 mod fitting;

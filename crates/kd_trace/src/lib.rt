@@ -11,7 +11,8 @@
 //! ```
 //!
 //! `specs/` says which bytes are a trace and which traces are right; [`check_trace`] judges bytes
-//! by it, and [`check_run`] those that it reads.
+//! by it, and [`check_run`] those that it reads. [`record_run`] writes the trace of the run that
+//! frames make.
 #![tactic(auto)]
 
 mod checking;

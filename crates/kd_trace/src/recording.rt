@@ -63,7 +63,9 @@ fn is_read_again(
 /// A witness that writes what it is told, as a trace.
 #[derive(Drop)]
 pub struct Recorder {
+    /// Where its memory comes from.
     pub alloc: Global,
+    /// The items of what it was told.
     pub written: Vec<u8>,
     /// Whose event it saw last.
     pub caller: u64,
