@@ -5,6 +5,8 @@
 pub enum Pick {
     /// The run of `replay`.
     Replay,
+    /// The run of `record`.
+    Record,
     /// The run of `check`.
     Check,
     /// None.

@@ -1,8 +1,8 @@
 //! The program `kdbusd`: a message bus in user space after kdbus.
 //!
 //! `kdbusd replay` reads recorded command frames from the standard input and writes the replies to
-//! the standard output. `kdbusd check` reads the trace of a run, and writes whether the run was
-//! legal and was answered as it had to be.
+//! the standard output. `kdbusd record` writes the trace of that run instead. `kdbusd check` reads
+//! such a trace, and writes whether the run was legal and was answered as it had to be.
 #![tactic(auto)]
 
 mod choice;
@@ -11,7 +11,7 @@ mod words;
 
 use choice::Pick;
 use kd_outside::{StdSink, StdSource};
-use kd_trace::check_run;
+use kd_trace::{check_run, record_run};
 use kd_types::Status;
 pub use run::replay_run;
 use std::alloc::{AllocError, Global};
@@ -34,6 +34,7 @@ fn run_over_streams(
     let mut sink = StdSink::make(alloc, output)?;
     let status = match pick(&texts) {
         Pick::Replay => replay_run(alloc, &texts, &mut source, &mut sink),
+        Pick::Record => record_run(alloc, &texts, &mut source, &mut sink),
         Pick::Check => check_run(alloc, &texts, &mut source, &mut sink),
         Pick::Other => Status::BadWords,
     };

@@ -58,12 +58,13 @@ fn a_run_ends_where_its_source_or_its_sink_fails(rt: HostRuntime) -> Result<(), 
 #[test]
 fn other_words_than_replay_read_and_write_nothing(rt: HostRuntime) -> Result<(), Fail> {
     let alloc = rt.alloc();
-    let words: [&[&str]; 6] = [
+    let words: [&[&str]; 7] = [
         &[],
         &["x"],
         &["replay", "x"],
         &["--help"],
         &["replay "],
+        &["record"],
         &["check"],
     ];
     for list in words {
