@@ -6,6 +6,8 @@ mod broken;
 #[cfg(test)]
 mod faults;
 #[cfg(test)]
+mod record;
+#[cfg(test)]
 mod runs;
 #[cfg(test)]
 mod table;
