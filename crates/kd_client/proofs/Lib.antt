@@ -1,4 +1,6 @@
 pub mod Coming
+pub mod Forms
 pub mod Heads
 pub mod NoReply
+pub mod Received
 pub mod Spoken

@@ -6,7 +6,7 @@ use Rattle.std.proofs.Math.Seq.{take-append-add}
 use Rattle.std.specs.Io.KnownBytes.{Appends, Consumes}
 use Rattle.kd_outside.specs.Causes.{Rose}
 use Rattle.kd_outside.specs.Told.{Side, LinkState}
-use Rattle.kd_outside.proofs.Known.{consumes_nothing, consumes_more, appends_more}
+use Rattle.kd_outside.proofs.Known.{appends_nothing, appends_more, consumes_nothing, consumes_more}
 use Rattle.kd_wire.specs.declared.command.Command.{Command}
 use Rattle.kd_wire.specs.declared.reply.Reply.{Reply}
 use Rattle.kd_wire.specs.Frames.{frame_of}
@@ -79,6 +79,18 @@ broke_unsent from before after commands error u same =
 pub memory_cause : (at : ℕ) (before after : LinkState) (left : List Command) (bytes : List ℕ) (count total : ℕ) → IsCause at before after left bytes count total OutOfMemory
 memory_cause at before after [] bytes count total = tt
 memory_cause at before after (c ∷ left) bytes count total = tt
+
+-- memory ran out before anything was written
+pub broke_none : (from : ℕ) (link : LinkState) (left : List Command) → Broke from link link [] left OutOfMemory
+broke_none from link left =
+    record {
+      count = 0;
+      bytes = [];
+      written = appends_nothing link.writing.bytes;
+      read = rw replies_none (consumes_nothing link.reading.bytes);
+      answered = tt;
+      cause = memory_cause (from + length (replies [])) link link left [] 0 (length (frames left));
+    }
 
 -- the frames were written, and handing them on failed
 pub unsent_whole : (before mid after : Side) (bytes : List ℕ) → Appends before.bytes mid.bytes bytes → mid.faults ≡ before.faults → after.bytes ≡ mid.bytes → Rose mid.faults after.faults → IsUnsent before after bytes LinkFault

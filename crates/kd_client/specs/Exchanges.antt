@@ -1,10 +1,12 @@
 -- What was asked and answered over a link, and the bytes of both.
-use Rattle.std.specs.Prelude.{◌≡◌, ℕ, List, map}
+use Rattle.std.specs.Prelude.{◌≡◌, ℕ, ◌+◌, List, length, map, Result, Ok, Err}
 use Rattle.std.specs.List.{flat_map, zip, AllByRecursion}
 use Rattle.std.specs.Io.KnownBytes.{Appends, Consumes}
 use Rattle.kd_outside.specs.Told.{LinkState}
 use Rattle.kd_wire.specs.declared.command.Command.{Command}
+use Rattle.kd_types.specs.declared.refusal.Refusal.{Refusal}
 use Rattle.kd_wire.specs.declared.reply.Reply.{Reply}
+use Rattle.kd_wire.specs.declared.reply.Reply.TheVariants.{Refused}
 use Rattle.kd_wire.specs.Opcodes.{opcode_number}
 use Rattle.kd_wire.specs.Commands.{opcode_in}
 use Rattle.kd_wire.specs.Frames.{frame_of}
@@ -17,6 +19,11 @@ pub record Exchange : Type 0 where
 
 abbrev pub exchange : Command → Reply → Exchange
 exchange command reply = record { command = command; reply = reply }
+
+-- the reply that tells this: a command is done, or is refused
+abbrev pub outcome : {X : Type 0} → Reply → Result X Refusal → Reply
+outcome done (Ok value) = done
+outcome done (Err refusal) = Refused refusal
 
 -- commands and their replies, paired by place
 abbrev pub paired : List Command → List Reply → List Exchange
@@ -49,3 +56,8 @@ pub record Exchanged (before after : LinkState) (es : List Exchange) : Type 0 wh
   pub answered : AreAnswered es
   pub reads : after.reading.faults ≡ before.reading.faults
   pub writes : after.writing.faults ≡ before.writing.faults
+
+-- a dialogue went on by these, from one state of the link and one place to the other
+pub record Went (before after : LinkState) (from to : ℕ) (es : List Exchange) : Type 0 where
+  pub exchanged : Exchanged before after es
+  pub place : to ≡ from + length (replies es)

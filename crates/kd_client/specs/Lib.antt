@@ -3,5 +3,9 @@
 pub mod Exchanges
 -- why bytes are no reply, and why a call ended its client
 pub mod Causes
+-- requests: how one is placed, which wait, and what an image is to them
+pub mod Requests
+-- what is asked for the next message, and how far it comes
+pub mod Receptions
 -- a client: its link, and what it knows
 pub mod Clients

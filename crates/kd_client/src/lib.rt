@@ -18,8 +18,14 @@
 mod client;
 mod dialogue;
 mod error;
+mod next;
 mod reading;
+mod receiving;
+mod request;
+mod requesting;
 mod sending;
 
 pub use client::Client;
 pub use error::ClientError;
+pub use next::Next;
+pub use request::Request;
