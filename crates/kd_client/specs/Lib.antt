@@ -7,5 +7,5 @@ pub mod Causes
 pub mod Requests
 -- what is asked for the next message, and how far it comes
 pub mod Receptions
--- a client: its link, and what it knows
+-- the calls of a client, and what it knows by them
 pub mod Clients

@@ -36,7 +36,8 @@ abbrev pub free : ℕ → Command
 free number = commands.Free number
 
 abbrev pub received : Slice → Exchange
-received slice = exchange receive (replies.Recv slice.number slice.offset slice.length slice.dropped)
+received slice =
+    exchange receive (replies.Recv slice.number slice.offset slice.length slice.dropped)
 
 abbrev pub was_read : ℕ → List ℕ → Exchange
 was_read number bytes = exchange (read number) (replies.Read bytes)
@@ -54,7 +55,8 @@ exchanges (unreceived refusal) = exchange receive (replies.Refused refusal) ∷ 
 exchanges (unread slice refusal) =
     received slice ∷ exchange (read slice.number) (replies.Refused refusal) ∷ []
 exchanges (unfreed slice bytes refusal) =
-    received slice ∷ was_read slice.number bytes ∷ exchange (free slice.number) (replies.Refused refusal) ∷ []
+    received slice ∷ was_read slice.number bytes
+    ∷ exchange (free slice.number) (replies.Refused refusal) ∷ []
 exchanges (whole slice bytes image) =
     received slice ∷ was_read slice.number bytes ∷ exchange (free slice.number) replies.Free ∷ []
 

@@ -9,7 +9,7 @@ ghost use Rattle.kd_client.specs.Exchanges.{Exchanged, exchange, number_of, outc
 ghost use Rattle.kd_client.specs.Causes.{Broke};
 ghost use Rattle.kd_client.specs.Requests.{placing, request_command, request_to};
 ghost use Rattle.kd_client.specs.Receptions.{IsReading, Reception, Stopped, exchanges, found};
-ghost use Rattle.kd_client.specs.Clients.{ClientState, new_client, with_found, with_heard, with_request};
+ghost use Rattle.kd_client.specs.Clients.{ClientState, after, asked, looked, new_client, requested};
 
 use crate::dialogue::Dialogue;
 use crate::error::ClientError;
@@ -68,8 +68,8 @@ impl<L: Link + Drop> Client<L> {
             (exchange command r.1 ∷ [])) }
         ensures answers { IfOk result (λ r. IsReplyTo (number_of command) r.1) }
         ensures size { IfOk result (λ r. reply_length r.1 ≤ 2097152) }
-        ensures rest { IfOk result (λ r. r.0 ≡ with_heard r.0.link
-            (exchange command r.1 ∷ []) self) }
+        ensures rest { IfOk result (λ r. r.0
+            ≡ after r.0.link (asked (exchange command r.1)) self) }
         ensures err { IfErr result (λ e. Broke self.read (L.told self.link) (L.told e.0) []
             (command ∷ []) e.1) }
     {
@@ -101,9 +101,8 @@ impl<L: Link + Drop> Client<L> {
             (placing (request_to (self.requests + 1) dst) payload.items deadline r.1 ∷ [])) }
         ensures cookie { IfOk result (λ r. IfOk r.1 (λ c. c ≡ self.requests + 1)) }
         ensures size { IfOk result (λ r. reply_length (outcome replies.Send r.1) ≤ 2097152) }
-        ensures rest { IfOk result (λ r. r.0 ≡ with_request (request_to (self.requests + 1) dst)
-            r.1 (with_heard r.0.link (placing (request_to (self.requests + 1) dst) payload.items
-            deadline r.1 ∷ []) self)) }
+        ensures rest { IfOk result (λ r. r.0
+            ≡ after r.0.link (requested dst payload.items deadline r.1) self) }
         ensures err { IfErr result (λ e. Broke self.read (L.told self.link) (L.told e.0) []
             (request_command (request_to (self.requests + 1) dst) payload.items deadline ∷ [])
             e.1) }
@@ -139,7 +138,7 @@ impl<L: Link + Drop> Client<L> {
         ensures ok { IfOk result (λ r. (c : Reception) × IsReading c
             × (r.1 ≡ found self.outstanding c)
             × Exchanged (L.told self.link) (L.told r.0.link) (exchanges c)
-            × (r.0 ≡ with_found r.1 (with_heard r.0.link (exchanges c) self))) }
+            × (r.0 ≡ after r.0.link (looked c) self)) }
         ensures err { IfErr result (λ e. Stopped self.read (L.told self.link) (L.told e.0) e.1) }
     {
         let Client {
@@ -166,6 +165,14 @@ impl<L: Link + Drop> Client<L> {
         ensures { result ≡ self.now.read }
     {
         self.dialogue.read
+    }
+
+    /// How many requests were asked for, those that were refused with them: the cookie of the last
+    /// one.
+    pub fn requests(&self) -> u64
+        ensures { result ≡ self.now.requests }
+    {
+        self.requests
     }
 
     /// The link. What was asked so far was answered.

@@ -18,6 +18,7 @@
 mod client;
 mod dialogue;
 mod error;
+mod laws;
 mod next;
 mod reading;
 mod receiving;
@@ -27,5 +28,6 @@ mod sending;
 
 pub use client::Client;
 pub use error::ClientError;
+pub use laws::{a_client_is_told_by_its_calls, a_new_client_was_not_called};
 pub use next::Next;
 pub use request::Request;

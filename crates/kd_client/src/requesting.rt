@@ -26,7 +26,8 @@ fn request_command(
     requires some { dst ≢ 0 }
     requires one { dst ≢ any }
     requires payload { length payload.items ≤ 130960 }
-    ensures command { IfOk result (λ c. c ≡ request_command (request_to cookie dst) payload.items deadline) }
+    ensures command { IfOk result
+        (λ c. c ≡ request_command (request_to cookie dst) payload.items deadline) }
 {
     let items = vec![in alloc; WireItem::Payload(Blob::of(payload))]?;
     Ok(Command::Send {
@@ -57,11 +58,13 @@ impl<L: Link + Drop> Dialogue<L> {
         requires payload { length payload.items ≤ 130960 }
         requires few { self.old.read < 2 ^ 63 }
         ensures ok { IfOk result (λ r. Went (L.told self.old.link) (L.told self.new.link)
-            self.old.read self.new.read (placing (request_to cookie dst) payload.items deadline r ∷ [])) }
+            self.old.read self.new.read
+            (placing (request_to cookie dst) payload.items deadline r ∷ [])) }
         ensures cookie { IfOk result (λ r. IfOk r (λ c. c ≡ cookie)) }
         ensures size { IfOk result (λ r. reply_length (outcome replies.Send r) ≤ 2097152) }
         ensures err { IfErr result (Broke self.old.read (L.told self.old.link)
-            (L.told self.new.link) [] (request_command (request_to cookie dst) payload.items deadline ∷ [])) }
+            (L.told self.new.link) []
+            (request_command (request_to cookie dst) payload.items deadline ∷ [])) }
     {
         let command = request_command(alloc, cookie, dst, payload, deadline)?;
         let reply = self.ask(alloc, &command)?;
