@@ -11,3 +11,5 @@ mod asking;
 mod table;
 #[cfg(test)]
 mod talk;
+#[cfg(test)]
+mod waiting;

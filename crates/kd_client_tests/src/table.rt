@@ -4,7 +4,7 @@ use std::alloc::Global;
 use std::test::Fail;
 
 /// A word of a table: a number, `any` for all ones, or behind a quote the bytes of a short text.
-fn word_of(text: &str) -> Result<u64, Fail> {
+pub fn number_of(text: &str) -> Result<u64, Fail> {
     if text == "any" {
         return Ok(u64::MAX);
     }
@@ -23,7 +23,7 @@ fn word_of(text: &str) -> Result<u64, Fail> {
 pub fn bytes_of(alloc: Global, lines: &str) -> Result<Vec<u8>, Fail> {
     let mut bytes = Vec::new(alloc);
     for text in lines.split_whitespace() {
-        bytes.extend_from_slice(&word_of(text)?.to_le_bytes())?;
+        bytes.extend_from_slice(&number_of(text)?.to_le_bytes())?;
     }
     Ok(bytes)
 }
@@ -31,5 +31,5 @@ pub fn bytes_of(alloc: Global, lines: &str) -> Result<Vec<u8>, Fail> {
 /// The number before a line's colon, and the words behind it.
 pub fn numbered(line: &str) -> Result<(u64, &str), Fail> {
     let (number, words) = line.split_once(':').ok_or("a line without a colon")?;
-    Ok((word_of(number)?, words))
+    Ok((number_of(number)?, words))
 }

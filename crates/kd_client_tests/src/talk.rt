@@ -3,9 +3,10 @@
 ghost use Rattle.std.specs.Prelude.{IfOk};
 ghost use Rattle.kd_wire.specs.Refusals.{IsWellFormed};
 
-use crate::table::bytes_of;
-use kd_client::{Client, ClientError};
+use crate::table::{bytes_of, number_of};
+use kd_client::{Client, ClientError, Next};
 use kd_outside::{MemLink, MemSink, MemSource};
+use kd_types::{ConnId, Moment};
 use kd_wire::{Command, Cut, Port, cut, read_command, write_reply};
 use std::alloc::Global;
 use std::test::Fail;
@@ -91,6 +92,115 @@ pub fn ask_each(alloc: Global, link: MemLink, frames: &str) -> Result<Heard, Fai
     Ok(Heard {
         replies,
         link: client.into_link(),
+        error: None,
+    })
+}
+
+/// The bytes of replies: a line `reply` has their words, a line `image` those of an image that is
+/// received, read and given back.
+pub fn replies_of(alloc: Global, lines: &str) -> Result<Vec<u8>, Fail> {
+    let mut replies = Vec::new(alloc);
+    for line in lines.lines() {
+        let (kind, words) = line.split_once(':').ok_or("a line without a colon")?;
+        let bytes = bytes_of(alloc, words)?;
+        if kind == "reply" {
+            replies.extend_from_slice(&bytes)?;
+        } else {
+            let length = bytes.len() as u64;
+            put_words(&mut replies, &[64, 3, 0, 0, 7, 0, length, 0])?;
+            put_words(&mut replies, &[length.wrapping_add(40), 4, 0, 0, length])?;
+            replies.extend_from_slice(&bytes)?;
+            put_words(&mut replies, &[32, 5, 0, 0])?;
+        }
+    }
+    Ok(replies)
+}
+
+fn put_words(out: &mut Vec<u8>, words: &[u64]) -> Result<(), Fail> {
+    for word in words {
+        out.extend_from_slice(&word.to_le_bytes())?;
+    }
+    Ok(())
+}
+
+/// What came of calls in turn.
+#[derive(Debug, Drop)]
+pub struct Spoken {
+    pub link: MemLink,
+    /// The first call of which something else came than its line says, counted from 1.
+    pub other: Option<u64>,
+    /// What the client ended with, if a call did.
+    pub error: Option<ClientError>,
+}
+
+/// A call by its words: what came of it, as a word and a number.
+fn call(
+    alloc: Global,
+    client: Client<MemLink>,
+    words: &str,
+) -> Result<Result<(Client<MemLink>, (&'static str, u64)), (MemLink, ClientError)>, Fail> {
+    if client.place() > 1 << 30 || client.requests() > 1 << 30 {
+        return Err("too much was asked")?;
+    }
+    let Some(dst) = words.strip_prefix("request ") else {
+        return Ok(match client.next(alloc) {
+            Ok((client, next)) => Ok((client, found(&next))),
+            Err(ended) => Err(ended),
+        });
+    };
+    let dst = number_of(dst.trim())?;
+    if dst == 0 || dst == u64::MAX {
+        return Err("no connection")?;
+    }
+    let payload = b"hi".to_vec(alloc)?;
+    Ok(
+        match client.request(alloc, ConnId(dst), payload, Moment(1_000)) {
+            Ok((client, Ok(cookie))) => Ok((client, ("placed", cookie.0))),
+            Ok((client, Err(refusal))) => Ok((client, ("refused", refusal.value()))),
+            Err(ended) => Err(ended),
+        },
+    )
+}
+
+/// What was found, as a word and a number.
+fn found(next: &Next) -> (&'static str, u64) {
+    match next {
+        Next::Nothing { dropped } => ("nothing", *dropped),
+        Next::Refused(refusal) => ("refused", refusal.value()),
+        Next::Answer { cookie, .. } => ("answer", cookie.0),
+        Next::Failed { cookie, dead } => (if *dead { "dead" } else { "late" }, cookie.0),
+        Next::Changed { new, .. } => ("changed", new.0),
+        Next::Message(image) => ("message", image.last),
+    }
+}
+
+/// Makes these calls in turn; each line has behind `>` what is to come of it.
+pub fn speak(alloc: Global, link: MemLink, calls: &str) -> Result<Spoken, Fail> {
+    let mut client = client_of(alloc, link)?;
+    let mut other = None;
+    for (line, at) in calls.lines().zip(1u64..) {
+        let (words, told) = line.split_once('>').ok_or("a call without an answer")?;
+        let (word, number) = told
+            .trim()
+            .split_once(' ')
+            .ok_or("an answer without a number")?;
+        match call(alloc, client, words.trim())? {
+            Ok((called, came)) => {
+                client = called;
+                if came != (word, number_of(number)?) {
+                    other = other.or(Some(at));
+                }
+            }
+            Err((link, error)) => return Ok(Spoken {
+                link,
+                other,
+                error: Some(error),
+            }),
+        }
+    }
+    Ok(Spoken {
+        link: client.into_link(),
+        other,
         error: None,
     })
 }
