@@ -6,7 +6,7 @@ ghost use Rattle.kd_wire.specs.Refusals.{IsWellFormed};
 use crate::table::{bytes_of, number_of};
 use kd_client::{Client, ClientError, Next};
 use kd_outside::{MemLink, MemSink, MemSource};
-use kd_types::{ConnId, Moment};
+use kd_types::{ConnId, Cookie, Moment, Refusal};
 use kd_wire::{Command, Cut, Port, cut, read_command, write_reply};
 use std::alloc::Global;
 use std::test::Fail;
@@ -155,11 +155,18 @@ fn call(
     let payload = b"hi".to_vec(alloc)?;
     Ok(
         match client.request(alloc, ConnId(dst), payload, Moment(1_000)) {
-            Ok((client, Ok(cookie))) => Ok((client, ("placed", cookie.0))),
-            Ok((client, Err(refusal))) => Ok((client, ("refused", refusal.value()))),
+            Ok((client, answer)) => Ok((client, answered(answer))),
             Err(ended) => Err(ended),
         },
     )
+}
+
+/// What came of a request, as a word and a number.
+fn answered(answer: Result<Cookie, Refusal>) -> (&'static str, u64) {
+    match answer {
+        Ok(cookie) => ("placed", cookie.0),
+        Err(refusal) => ("refused", refusal.value()),
+    }
 }
 
 /// What was found, as a word and a number.
