@@ -5,3 +5,4 @@ pub mod Heads
 pub mod NoReply
 pub mod Received
 pub mod Spoken
+pub mod Settled

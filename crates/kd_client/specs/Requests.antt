@@ -1,5 +1,5 @@
 -- Requests: how one is placed, which wait, and what an image is to them.
-use Rattle.std.specs.Prelude.{ℕ, Bool, true, false, not, ◌&&◌, ◌==◌, if◌then◌else◌, pos, List, [], ◌∷◌, ◌++◌, Option, Some, None, Result, Ok, Err}
+use Rattle.std.specs.Prelude.{◌≡◌, ℕ, Bool, true, false, not, ◌&&◌, ◌==◌, if◌then◌else◌, pos, List, [], ◌∷◌, ◌++◌, Option, Some, None, Result, Ok, Err}
 use Rattle.kd_image.specs.Images.{any}
 use Rattle.kd_image.specs.declared.image.Image.{Image}
 use Rattle.kd_image.specs.declared.notice.Notice.{Notice}
@@ -42,7 +42,7 @@ has_cookie cookie request = request.cookie == cookie
 -- and isn't sent to all
 abbrev pub answers : Image → Request → Bool
 answers image request =
-    (image.last == request.cookie)
+    has_cookie image.last request
     && ((image.source == request.dst)
     && (not (has_bits image.flags 1) && not (image.dst == any)))
 
@@ -80,8 +80,21 @@ meaning requests image = elim image.notice [
   | Some notice ↦ told requests notice image
 ]
 
+-- the cookie of the request that is answered or fails by this
+abbrev pub settled : Next → Option ℕ
+settled (Answer cookie image) = Some cookie
+settled (Failed cookie dead) = Some cookie
+settled next = None
+
 -- those that still wait: one that was answered or failed doesn't
 abbrev pub unsettled : Next → List Request → List Request
 unsettled (Answer cookie image) requests = but_those (has_cookie cookie) requests
 unsettled (Failed cookie dead) requests = but_those (has_cookie cookie) requests
 unsettled next requests = requests
+
+-- what is settled by this is a request that waited, and no request of its cookie waits any more
+abbrev pub SettlesOne : List Request → Next → Type 0
+SettlesOne requests next =
+    (cookie : ℕ) → settled next ≡ Some cookie
+    → (some_of (has_cookie cookie) requests ≡ true)
+    × (some_of (has_cookie cookie) (unsettled next requests) ≡ false)

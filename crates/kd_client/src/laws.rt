@@ -3,6 +3,9 @@
 
 ghost use Rattle.std.specs.Prelude.{◌≡◌, List, [], ◌∷◌};
 ghost use Rattle.kd_client.specs.Clients.{Call, after, client_after, new_client};
+ghost use Rattle.kd_client.specs.declared.request.Request.{Request};
+ghost use Rattle.kd_client.specs.Requests.{SettlesOne};
+ghost use Rattle.kd_client.specs.Receptions.{Reception, found};
 
 use kd_outside::Link;
 
@@ -16,4 +19,11 @@ pub fn a_new_client_was_not_called<L: Link + Drop>()
 pub fn a_client_is_told_by_its_calls<L: Link + Drop>()
     ensures { (link now : L) (call : Call) (calls : List Call)
         → after now call (client_after link calls) ≡ client_after now (call ∷ calls) }
+{}
+
+/// Whatever is found, a request that it answers or fails waited, and no request of its cookie waits
+/// any more.
+pub fn a_settled_request_waited()
+    ensures { (requests : List Request) (reception : Reception)
+        → SettlesOne requests (found requests reception) }
 {}

@@ -28,6 +28,8 @@ mod sending;
 
 pub use client::Client;
 pub use error::ClientError;
-pub use laws::{a_client_is_told_by_its_calls, a_new_client_was_not_called};
+pub use laws::{
+    a_client_is_told_by_its_calls, a_new_client_was_not_called, a_settled_request_waited,
+};
 pub use next::Next;
 pub use request::Request;

@@ -25,7 +25,7 @@ pub struct Request {
 fn answers(image: &Image, request: &Request) -> bool
     ensures { result ≡ answers image.now request.now }
 {
-    image.last == request.cookie.0
+    request.cookie.0 == image.last
         && image.source == request.dst
         && !SendFlags(image.flags).expects_reply()
         && image.dst != ANY
