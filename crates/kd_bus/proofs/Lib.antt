@@ -10,4 +10,5 @@ pub mod Planned
 pub mod Refusals
 pub mod Left
 pub mod Belonging
+pub mod Begun
 pub mod Closings

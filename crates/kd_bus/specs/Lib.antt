@@ -18,5 +18,7 @@ pub mod Ready
 pub mod Leaving
 -- what a command tells
 pub mod Commands
+-- what is told where a bus comes
+pub mod Begins
 -- what a slot has come to when all its passes came back
 pub mod Closing

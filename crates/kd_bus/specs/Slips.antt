@@ -7,7 +7,7 @@ use Rattle.kd_histories.specs.Pools.{marked_numbers}
 use Rattle.kd_pool.specs.Told.{receive_answer}
 use Rattle.kd_holds.specs.Handing.{answer_told, answers_told, visit_met}
 use Rattle.kd_holds.specs.Publishing.{publish_answer}
-use Rattle.kd_histories.specs.Turns.{Turn, did, left, idle}
+use Rattle.kd_histories.specs.Turns.{Turn, did, left, started, idle}
 use Rattle.kd_bus.specs.declared.slip.Note.{Note}
 use Rattle.kd_bus.specs.declared.slip.Note.TheVariants as note
 
@@ -36,6 +36,13 @@ turn_told (note.Refused l) =
       outs = [];
       reply = reply.Refused l.why.value;
       becomes = l.becomes.value;
+    })
+turn_told (note.Started b) =
+    started (record {
+      generation = b.generation.value;
+      creator = b.creator.value;
+      size = b.param.value.size;
+      hashes = b.param.value.hashes;
     })
 turn_told (note.Visited x) =
     did (record {

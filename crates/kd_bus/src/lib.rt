@@ -6,6 +6,7 @@
 //!   desk      pool of     pool of    ..   pool of
 //!             seat 0      seat 1          seat 63
 //!
+//!   start                a turn on the desk and, while it is held, one on each pool that is closed
 //!   command              a turn on the desk and, while it is held, one on the pool of each visit
 //!   publish, receive     a turn on the pool of the seat
 //!   release              one step on the seat's mark words, which waits for nobody
@@ -17,6 +18,7 @@
 //! - `bus`: the bus and its passes; `locked`: what lies behind the locks; `slip`: what an entry says
 //! - `conn`, `member`: what a caller is, with its hand
 //! - `publishing`, `receiving`, `releasing`: the calls on one pool
+//! - `starting`: a bus begins in the slot
 //! - `closing`: all passes come back, and the desk and the pools come out
 //! - `command`: a pass gives a command; `preparing`, `visiting`, `pendings`, `leaving`: what it
 //!   needs, the visits of its plan, what these leave to be published, and how the desk is left
@@ -35,6 +37,7 @@ mod publishing;
 mod receiving;
 mod releasing;
 mod slip;
+mod starting;
 mod visiting;
 
 pub use bus::{Bus, BusPass};

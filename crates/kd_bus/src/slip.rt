@@ -6,10 +6,11 @@ ghost use Rattle.kd_pool.specs.Told.{receive_answer};
 ghost use Rattle.kd_holds.specs.Handing.{answer_told, answers_told, visit_met};
 ghost use Rattle.kd_holds.specs.Publishing as publishing;
 ghost use Rattle.kd_histories.specs.Pools.{marked_numbers};
-ghost use Rattle.kd_histories.specs.Turns.{did, idle, left};
+ghost use Rattle.kd_histories.specs.Turns.{did, idle, left, started};
 ghost use Rattle.kd_wire.specs.declared.reply.Reply as reply;
 ghost use Rattle.kd_bus.specs.Slips.{turn_told, words_in};
 
+use kd_bloom::Param;
 use kd_desk::{Out, Part, Plan, Who, WhoKind};
 use kd_holds::{Made, Pending, Published};
 use kd_pool::{Got, RecvMode};
@@ -42,6 +43,14 @@ pub struct Refusing {
     pub command: Snapshot<Command>,
     pub why: Snapshot<Refusal>,
     pub becomes: Snapshot<WhoKind>,
+}
+
+/// A bus that began, with its generation, by the user who made it.
+#[derive(Drop)]
+pub struct Beginning {
+    pub generation: Snapshot<u64>,
+    pub creator: Snapshot<u32>,
+    pub param: Snapshot<Param>,
 }
 
 /// A visit of a pool of a generation by the holder of the desk: the marks that it swept, the part
@@ -86,6 +95,7 @@ pub struct Given {
 pub enum Note {
     Left(Leaving),
     Refused(Refusing),
+    Started(Beginning),
     Visited(Visiting),
     Published(Publishing),
     Received(Receiving),
@@ -178,6 +188,23 @@ impl Slip {
             outs: Snapshot::of(outs),
             reply: Snapshot::of(reply),
             becomes: Snapshot::of(becomes),
+        }))
+    }
+
+    /// The entry of a bus that begins.
+    pub(crate) fn started(generation: u64, creator: u32, param: &Param) -> Slip
+        ensures { result
+            ≡ started (record {
+              generation = generation;
+              creator = creator;
+              size = param.now.size;
+              hashes = param.now.hashes;
+            }) }
+    {
+        Slip::of(Note::Started(Beginning {
+            generation: Snapshot::of(&generation),
+            creator: Snapshot::of(&creator),
+            param: Snapshot::of(param),
         }))
     }
 

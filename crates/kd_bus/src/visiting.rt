@@ -79,7 +79,7 @@ pub(crate) struct Answered {
 }
 
 /// Visits the pool of the part at this place of a plan.
-fn visit<R: Wait>(
+pub(crate) fn visit<R: Wait>(
     rt: &R,
     gate: &Gate<Locked>,
     pass: &mut Pass<Locked>,
