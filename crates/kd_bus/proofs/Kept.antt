@@ -27,7 +27,9 @@ use Rattle.kd_histories.specs.Pools.{hold_of}
 use Rattle.kd_histories.specs.Lent.{hand_by, hand_received}
 use Rattle.kd_histories.specs.Puts.{IsOwn}
 use Rattle.kd_bus.specs.declared.conn.Conn.{Conn}
-use Rattle.kd_bus.specs.Turned.{Belongs, IsNew, Receives, hand_answer, is_kept}
+use Rattle.kd_world.specs.State.{Pending}
+use Rattle.kd_holds.specs.declared.pending.Published.{Published}
+use Rattle.kd_bus.specs.Turned.{Belongs, IsNew, Publishes, Receives, hand_answer, is_kept}
 
 -- the numbers that are kept are those in hand
 abbrev IsSame : List (Option Told) → List ℕ → Type 0
@@ -86,6 +88,20 @@ receives_belong c mode r new v v' b it = record {
   own = subst (λ (p : Part Turn). IsOwn p.own c.generation (who.Conn c.id c.seat)) (sym (it.turn.others 0 (λ z. omega arith))) b.own;
   kept = λ n. ap (hand_has n) it.turn.hand_is
       ∙ (received_same mode (answer (hold_of it.list) (receive mode)) c.hand (hand v (suc c.seat)) b.sized it.is_new b.kept n ∙ ap (λ told. is_kept (get_or told n None)) (sym it.hand_is));
+}
+
+-- ---- a publishing
+
+-- changes no hand
+pub publishes_belong : (q : Pending) (r : Published) (v v' : View Turn) (c : Conn) → Belongs v c → Publishes q r v v' → Belongs v' c
+unfolding hand_by
+publishes_belong q r v v' c b it = record {
+  low = b.low;
+  sized = b.sized;
+  own = subst (λ (p : Part Turn). IsOwn p.own c.generation (who.Conn c.id c.seat)) (sym (it.turn.others 0 (λ z. omega arith))) b.own;
+  kept = λ n. ap (hand_has n) (dite (ℕ_discrete (suc c.seat) (suc q.seat))
+      (λ z. ap (λ (k : ℕ). hand v' k) z ∙ (it.turn.hand_is ∙ ap (λ (k : ℕ). hand v k) (sym z)))
+      (λ ne. it.turn.other_hands (suc c.seat) ne)) ∙ b.kept n;
 }
 
 -- ---- a release

@@ -1,7 +1,8 @@
 //! What a pass does at one pool to publish what it has still to publish.
 ghost use Rattle.std.specs.Prelude.{◌≡◌, ◌<◌, ◌^◌, suc};
 ghost use Rattle.kd_bus.specs.Sight.{IsIdle};
-ghost use Rattle.kd_bus.specs.Turned.{IsOwed, Publishes};
+ghost use Rattle.kd_bus.specs.Turned.{Belongs, IsOwed, Publishes};
+ghost use Rattle.kd_bus.specs.declared.conn.Conn as code;
 
 use crate::bus::{Bus, BusPass, lock_of};
 use crate::locked::Locked;
@@ -55,6 +56,7 @@ impl Bus {
         ensures gate { pass.new.gate ≡ pass.old.gate }
         ensures aim { pass.new.aim ≡ pass.old.aim }
         ensures publishes { Publishes pending result pass.old.view pass.new.view }
+        ensures own { (c : code.Conn) → Belongs pass.old.view c → Belongs pass.new.view c }
     {
         publish(rt, &self.gate, &mut pass.pass, pending)
     }
