@@ -22,8 +22,8 @@ is_close _ = false
 abbrev pub is_spent : ℕ → Command → Bool
 is_spent turns x = nat_le (2 ^ 40) turns && not (is_close x)
 
--- the pass took the desk, visited the pools that the command asks for where the desk stood, and left
--- it with the command's entry, at the slot's bus of this generation
+-- the pass took the desk, visited the pools that the command asks for where the desk stood, and
+-- left it with the command's entry, at the slot's bus of this generation
 pub record Runs (x : Command) (aim : Option ℕ) (m : Member) (g : ℕ) (reply : Reply) (now : WhoKind)
     (pendings : List Pending) (v v' : View Turn) : Type 0 where
   pub taken : View Turn

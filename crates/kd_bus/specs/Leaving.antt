@@ -93,8 +93,8 @@ pub record LeavesDesk (e : Turn) (v v' : View Turn) : Type 0 where
 
 -- the pass, which held the desk of the slot s, visited all that its command asks for, and left the
 -- desk with one entry: what its command came to there
-pub record Leaves (s : Slot) (aim : Option ℕ) (w : Who) (x : Command) (reply : Reply) (now : WhoKind)
-    (pendings : List Pending) (v v' : View Turn) : Type 0 where
+pub record Leaves (s : Slot) (aim : Option ℕ) (w : Who) (x : Command) (reply : Reply)
+    (now : WhoKind) (pendings : List Pending) (v v' : View Turn) : Type 0 where
   -- one entry for each visit, and the view behind them
   pub entries : List Did
   pub then : View Turn
@@ -114,7 +114,8 @@ IsOutcome w r =
     elim r.why [
       | None ↦ r.hand ≡ Some empty_hand
       | Some why ↦
-          (why ≢ OutOfMemory) × (r.reply ≡ reply.Refused why) × (r.becomes ≡ w.member) × (r.pendings.items ≡ [])
+          (why ≢ OutOfMemory) × (r.reply ≡ reply.Refused why) × (r.becomes ≡ w.member)
+          × (r.pendings.items ≡ [])
     ]
 
 -- only who seeks a bus is aimed at one

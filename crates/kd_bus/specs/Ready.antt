@@ -10,19 +10,19 @@ use Rattle.kd_world.specs.Hands.{empty_hand}
 use Rattle.kd_histories.specs.Slots.{planned}
 use Rattle.kd_bus.specs.declared.preparing.Prepared.{Prepared}
 
--- a plan of the desk of the slot's bus of this generation, and the memory for its visits and its end
-pub record IsReady (g : ℕ) (d : Desk) (aim : Option ℕ) (w : Who) (x : Command) (r : Prepared) : Type 0
-  where
-    pub plan : planned g aim d w x ≡ Ok (drafted d r.plan)
-    pub fits : Fits d r.plan.change
-    pub parts : AllByRecursion IsVisitable r.plan.parts
-    pub few : length r.plan.parts ≤ 2 ^ 42
-    pub made : IsMadeFor r.made r.plan.parts
-    pub dry : r.made.drained ≡ None
-    pub outs : r.outs.items ≡ []
-    pub generations : r.generations.items ≡ []
-    pub pendings : r.pendings.items ≡ []
-    pub room : length r.plan.parts ≤ vec_capacity r.outs
-    pub generations_room : length r.plan.parts ≤ vec_capacity r.generations
-    pub pendings_room : length r.plan.parts ≤ vec_capacity r.pendings
-    pub hand : r.hand ≡ empty_hand
+-- a plan of the desk of the slot's bus of this generation, and the memory for its visits and end
+pub record IsReady (g : ℕ) (d : Desk) (aim : Option ℕ) (w : Who) (x : Command) (r : Prepared)
+    : Type 0 where
+  pub plan : planned g aim d w x ≡ Ok (drafted d r.plan)
+  pub fits : Fits d r.plan.change
+  pub parts : AllByRecursion IsVisitable r.plan.parts
+  pub few : length r.plan.parts ≤ 2 ^ 42
+  pub made : IsMadeFor r.made r.plan.parts
+  pub dry : r.made.drained ≡ None
+  pub outs : r.outs.items ≡ []
+  pub generations : r.generations.items ≡ []
+  pub pendings : r.pendings.items ≡ []
+  pub room : length r.plan.parts ≤ vec_capacity r.outs
+  pub generations_room : length r.plan.parts ≤ vec_capacity r.generations
+  pub pendings_room : length r.plan.parts ≤ vec_capacity r.pendings
+  pub hand : r.hand ≡ empty_hand

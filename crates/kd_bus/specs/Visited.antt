@@ -70,7 +70,8 @@ pub record OneVisit (s : ℕ) (vis : Visit) (d : Did) (v v' : View Turn) : Type 
   pub steps : v'.steps ≡ v.steps
 
 -- and the pool answered this, at this generation
-pub record HasVisit (s : ℕ) (vis : Visit) (o : Answer) (generation : ℕ) (v v' : View Turn) : Type 0 where
+pub record HasVisit (s : ℕ) (vis : Visit) (o : Answer) (generation : ℕ) (v v' : View Turn)
+    : Type 0 where
   pub entry : Did
   pub visit : OneVisit s vis entry v v'
   pub answer_is : entry.answer ≡ o

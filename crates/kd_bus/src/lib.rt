@@ -15,7 +15,8 @@
 //! What a call tells stands in the lists of `kd_histories`: each turn ends the list of its lock
 //! with one entry, which is a `Slip` here. A value behind a lock is the state along its whole list.
 //!
-//! - `bus`: the bus and its passes; `locked`: what lies behind the locks; `slip`: what an entry says
+//! - `bus`: the bus and its passes; `locked`: what lies behind the locks; `slip`: what an entry
+//!   says
 //! - `conn`, `member`: what a caller is, with its hand
 //! - `publishing`, `receiving`, `releasing`: the calls on one pool
 //! - `starting`: a bus begins in the slot

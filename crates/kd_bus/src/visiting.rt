@@ -1,7 +1,7 @@
 //! The holder of the desk visits the pools of a plan.
-ghost use Rattle.std.specs.Prelude.{◌≡◌, ◌≢◌, ◌<◌, ◌≤◌, ◌^◌, ◌+◌, ℕ, suc, List, Option, None, true, false, length, vec_capacity, [], ◌∷◌};
+ghost use Rattle.std.specs.Prelude.{◌≡◌, ◌≢◌, ◌<◌, ◌≤◌, ◌^◌, ◌+◌, ℕ, List, Option, None, true, false, length, vec_capacity, [], ◌∷◌};
 ghost use Rattle.std.specs.List.{AllByRecursion};
-ghost use Rattle.kd_acts.specs.State.{by_desk, raise};
+ghost use Rattle.kd_acts.specs.State.{raise};
 ghost use Rattle.kd_acts.specs.State as state;
 ghost use Rattle.kd_desk.specs.declared.part.Part as code;
 ghost use Rattle.kd_desk.specs.Drafts.{IsVisitable, content_at, part_with, parts_with, seat_in};
