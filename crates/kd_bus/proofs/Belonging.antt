@@ -1,5 +1,5 @@
 -- A member stays its pass's through a command.
-use Rattle.std.specs.Prelude.{◌≡◌, ◌≢◌, ◌<◌, ◌+◌, ◌≤◌, ◌^◌, ℕ, zero, suc, ◌==◌, Bool, true, false, cond, List, [], get_or, length, replicate, slice_index_or, Option, Some, None, option_map, refl}
+use Rattle.std.specs.Prelude.{◌≡◌, ◌≢◌, ◌<◌, ◌+◌, ◌≤◌, ◌^◌, ℕ, zero, suc, ◌==◌, Bool, true, false, cond, List, [], get_or, length, replicate, slice_index_or, Option, Some, None, option_map, refl, Result, Ok, Err, IfOk, OnErr}
 use Rattle.std.proofs.Common.{sym, ap, ◌∙◌, subst, arith, eq-eqb, eqb-true}
 use Rattle.std.proofs.lemmas.Bool.{false≢true}
 use Rattle.kd_model.proofs.Truth.{no_some, same_some}
@@ -21,7 +21,7 @@ use Rattle.kd_hands.specs.Fits.{Stood}
 use Rattle.kd_world.specs.Hands.{empty_hand}
 use Rattle.kd_world.specs.State.{Pending}
 use Rattle.kd_commands.specs.Plans.{Part}
-use Rattle.kd_histories.specs.Turns.{Did, Left, Turn, idle, left}
+use Rattle.kd_histories.specs.Turns.{Did, Left, Turn, idle, left, started}
 use Rattle.kd_histories.specs.Slots.{AreTold, IsLeft, IsTold, Slot, slot_of, unborn}
 use Rattle.kd_histories.specs.Visits.{addressed}
 use Rattle.kd_histories.specs.Seats.{AreFair, IsAt, IsFair, IsOpenTo, Sitter, arrives, keeper, move_of, moved, sitter, sitter_after, stays}
@@ -39,7 +39,9 @@ use Rattle.kd_bus.specs.declared.locked.Locked.TheVariants as locked
 use Rattle.kd_bus.specs.Leaving.{IsOutcome, Leaves, LeavesDesk, TakesDesk, aim_left, left_as, parts_met}
 use Rattle.kd_bus.specs.Visited.{MadeVisits, answers_in}
 use Rattle.kd_bus.proofs.Alone.{TookIt}
-use Rattle.kd_bus.specs.Commands.{Commands, Runs}
+use Rattle.std.specs.declared.alloc.AllocError.{AllocError}
+use Rattle.kd_bus.specs.Begins.{Starts, shut_below}
+use Rattle.kd_bus.specs.Commands.{Commands, Runs, WantsMemory}
 use Rattle.kd_bus.specs.Sight.{BusSight}
 use Rattle.kd_bus.specs.declared.leaving.Outcome.{Outcome}
 use Rattle.kd_bus.specs.Members.{MemberBelongs, is_conn, kind_made, member_after, newly, who_of}
@@ -281,6 +283,22 @@ pub leaves_belong : (g : ℕ) (m : Member) (k : Kind) (s : Slot) (aim : Option �
 leaves_belong g m k s aim w x answer now pendings v v' desk stood value it caller gen b =
     after_belongs g m k (left_as s.generation aim w x (answers_in it.entries) answer now) v it.then v' desk stood (subst (λ z. IsLeft z (left_as s.generation aim w x (answers_in it.entries) answer now)) (sym value) it.is) caller gen
     (visits_belong m (parts_met s aim w x it.entries) it.entries v it.then it.made b) it.made.hands it.left
+
+-- ---- a new bus
+
+-- moves nobody
+starts_belong : (m : Member) (g creator size hashes : ℕ) (v v' : View Turn) → Starts g creator size hashes v v' → MemberBelongs v m → MemberBelongs v' m
+unfolding move_of
+starts_belong (member.Fresh creds) g creator size hashes v v' it b = tt
+starts_belong (member.Keeper k) g creator size hashes v v' it b = tt
+starts_belong (member.Maker k) g creator size hashes v v' it b = tt
+starts_belong (member.Conn c) g creator size hashes v v' it b =
+    conn_stays c (started (record { generation = g; creator = creator; size = size; hashes = hashes })) it.begins.then v' refl it.begins.left
+    (visits_belong (member.Conn c) (shut_below 64 (slot_of (part it.taken 0).seen).desk) it.begins.entries it.taken it.begins.then it.begins.made (taken_belongs (member.Conn c) v it.taken it.takes b))
+
+pub start_belongs : (m : Member) (r : Result ℕ AllocError) (creator size hashes : ℕ) (v v' : View Turn) → IfOk r (λ g. Starts g creator size hashes v v') → OnErr r (WantsMemory v v') → MemberBelongs v m → MemberBelongs v' m
+start_belongs m (Ok g) creator size hashes v v' it err b = starts_belong m g creator size hashes v v' it b
+start_belongs m (Err e) creator size hashes v v' ok it b = idle_belongs m it.taken v' it.leaves (taken_belongs m v it.taken it.takes b)
 
 -- ---- what a pass is told
 

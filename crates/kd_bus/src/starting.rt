@@ -9,7 +9,9 @@ ghost use Rattle.kd_histories.specs.Turns as turns;
 ghost use Rattle.kd_histories.specs.Slots.{next_odd, seats_behind, slot_of};
 ghost use Rattle.kd_holds.specs.Handing.{IsMadeFor};
 ghost use Rattle.kd_bus.specs.Commands.{WantsMemory};
+ghost use Rattle.kd_bus.specs.Members.{MemberBelongs};
 ghost use Rattle.kd_bus.specs.Sight.{IsIdle};
+ghost use Rattle.kd_bus.specs.declared.member.Member as members;
 ghost use Rattle.kd_bus.specs.Begins.{Begins, Starts, is_taken, shut_below};
 ghost use Rattle.kd_bus.specs.Visited.{AreVisits, HasDesk, HasVisit};
 
@@ -236,6 +238,8 @@ impl Bus {
         requires turns { pass.old.view.turns < 2 ^ 42 }
         ensures gate { pass.new.gate ≡ pass.old.gate }
         ensures aim { pass.new.aim ≡ pass.old.aim }
+        ensures own { (m : members.Member) → MemberBelongs pass.old.view m
+            → MemberBelongs pass.new.view m }
         ensures starts { IfOk result (λ g.
             Starts g creator param.size param.hashes pass.old.view pass.new.view) }
         ensures wanting { OnErr result (WantsMemory pass.old.view pass.new.view) }
