@@ -16,9 +16,11 @@ use std::alloc::{AllocError, Global};
 /// The user who made the bus of a replay.
 const CREATOR: u32 = 1000;
 
-/// The bus of a replay: made by [`CREATOR`], with filters of 64 bytes and 8 hashes.
+/// The bus of a replay, on which nothing was done: the user 1000 made it, with filters of 64 bytes
+/// and 8 hashes.
 pub fn open(alloc: Global) -> Result<World, AllocError>
     ensures world { IfOk result (λ w. w.world ≡ replay_world) }
+    ensures steps { IfOk result (λ w. w.steps ≡ 0) }
     ensures ready { IfOk result (λ w. IsReady w.world) }
 {
     World::make(

@@ -10,6 +10,7 @@ use Rattle.kd_wire.specs.declared.command.Command.{Command}
 use Rattle.kd_wire.proofs.ReadAgain.{one_value}
 use Rattle.kd_world.specs.Legal.{Event, visit, leave, publishes, receives, reads, frees}
 use Rattle.kd_world.specs.Legal as legal
+use Rattle.kd_replay.specs.Turns.{replay_world}
 use Rattle.kd_trace.specs.declared.outcome.Outcome.{Outcome}
 use Rattle.kd_trace.specs.Items.{IsOutcome, IsOutcomeItem, MayStand, caller_of, event_entry, outcome_entry}
 use Rattle.kd_world.specs.State.{World}
@@ -17,7 +18,7 @@ use Rattle.kd_world.specs.Step.{step}
 use Rattle.kd_world.specs.Runs.{world_after}
 use Rattle.kd_trace.specs.declared.verdict.Verdict.{Verdict}
 use Rattle.kd_trace.specs.declared.verdict.Verdict.TheVariants.{Yes, No}
-use Rattle.kd_trace.specs.Right.{AreRight, IsFirstWrong, IsRight, IsVerdict, opening}
+use Rattle.kd_trace.specs.Right.{AreRight, IsFirstWrong, IsRight, IsVerdict}
 use Rattle.kd_trace.specs.Reading.{event_in}
 use Rattle.kd_trace.specs.Trace.{ArePairs, BreaksAt, HasNoEvent, HasNoOutcome, IsPair, IsTrace, Pair, event_bytes, events, outcome_bytes, pair_bytes, trace_bytes}
 use Rattle.kd_trace.proofs.EventsAgain.{IsTake, caller_small, event_again}
@@ -166,15 +167,15 @@ same_front w (z ∷ xs) (u ∷ ys) xs' ys' x y e a b f g =
     let t = same_front (step w z.event) xs ys xs' ys' x y (tail_is z u (xs ++ x ∷ xs') (ys ++ y ∷ ys') e) a.1 b' f g' in
     ap (λ (p : Pair). p ∷ xs) h ∙ ap (λ (l : List Pair). u ∷ l) t
 
-never_both : (ps : List Pair) (index at : ℕ) → AreRight opening ps → IsFirstWrong ps index at → ⊥
-never_both ps index at all f = f.here (right_there opening f.before f.behind f.wrong (subst (λ (l : List Pair). AreRight opening l) f.all all))
+never_both : (ps : List Pair) (index at : ℕ) → AreRight replay_world ps → IsFirstWrong ps index at → ⊥
+never_both ps index at all f = f.here (right_there replay_world f.before f.behind f.wrong (subst (λ (l : List Pair). AreRight replay_world l) f.all all))
 
 pub one_verdict : (ps : List Pair) (v u : Verdict) → IsVerdict ps v → IsVerdict ps u → v ≡ u
 one_verdict ps Yes Yes a b = refl
 one_verdict ps Yes (No index at) a b = absurd (never_both ps index at a b)
 one_verdict ps (No index at) Yes a b = absurd (never_both ps index at b a)
 one_verdict ps (No i at) (No j place) a b =
-    let front : a.before ≡ b.before = same_front opening a.before b.before a.behind b.behind a.wrong b.wrong (sym a.all ∙ b.all) a.right b.right a.here b.here in
+    let front : a.before ≡ b.before = same_front replay_world a.before b.before a.behind b.behind a.wrong b.wrong (sym a.all ∙ b.all) a.right b.right a.here b.here in
     let index : i ≡ j = a.index_is ∙ ap (λ (l : List Pair). length l) front ∙ sym b.index_is in
     let there : at ≡ place = a.place ∙ ap (λ (l : List Pair). length (trace_bytes l)) front ∙ sym b.place in
     ap (λ (n : ℕ). No n at) index ∙ ap (No j) there

@@ -26,8 +26,9 @@ use Rattle.kd_pairs.proofs.Along.{publishes_are_paired}
 use Rattle.kd_core.specs.declared.event.Answer.{Answer}
 use Rattle.kd_core.specs.declared.event.Answer.TheVariants as answer
 use Rattle.kd_core.specs.Running.{out_of, said, told_by_pool}
+use Rattle.kd_replay.specs.Turns.{replay_world}
 use Rattle.kd_trace.specs.Trace.{ArePairs, IsPair, Pair, events, pair_bytes, trace_bytes}
-use Rattle.kd_trace.specs.Right.{AreRight, IsFirstWrong, IsLegalRun, IsRight, number_held, opening, outcome, outcome_of}
+use Rattle.kd_trace.specs.Right.{AreRight, IsFirstWrong, IsLegalRun, IsRight, number_held, outcome, outcome_of}
 use Rattle.kd_trace.specs.declared.verdict.Verdict.{Verdict}
 use Rattle.kd_trace.specs.declared.verdict.Verdict.TheVariants.{Yes, No}
 use Rattle.kd_trace.specs.Judging.{AreJudged, AreRun, HoldsNumber, IsNumberOf, number_with}
@@ -140,8 +141,8 @@ pairs_more (q ∷ ps) p all one = (all.0, pairs_more ps p all.1 one)
 
 pub run_more : (ps : List Pair) (p : Pair) (w next : World) (k j count : ℕ) → AreRun ps w k count → IsRight w p → next ≡ step w p.event → HoldsNumber next j → AreRun (ps ++ p ∷ []) next j (count + 1)
 run_more ps p w next k j count r one is number = record {
-  right = right_more opening ps p r.right (subst (λ (v : World). IsRight v p) r.world one);
-  world = is ∙ ap (λ (v : World). step v p.event) r.world ∙ sym (world_more opening ps p);
+  right = right_more replay_world ps p r.right (subst (λ (v : World). IsRight v p) r.world one);
+  world = is ∙ ap (λ (v : World). step v p.event) r.world ∙ sym (world_more replay_world ps p);
   number = number;
   count_is = omega (arith, r.count_is, length-append ps (p ∷ []));
 }
@@ -180,7 +181,7 @@ pub right_goes_on : (ps : List Pair) (p : Pair) (w next : World) (k j count : �
 right_goes_on ps p w next k j count Yes e r one is number = run_more ps p w next k j count r one is number
 right_goes_on ps p w next k j count (No index at) e r one is number = absurd cc
 
-pub none_run : AreRun [] opening 0 0
+pub none_run : AreRun [] replay_world 0 0
 unfolding world_after new_world
 none_run = record { right = tt; world = refl; number = tt; count_is = refl }
 
@@ -202,21 +203,21 @@ front_legal w (e ∷ before) behind l =
     let more : all_legal (step w e) before ≡ true = front_legal (step w e) before behind h.1 in
     rw (h.0, more) refl
 
-reached : (es : List Event) → all_legal opening es ≡ true → IsReached (world_after opening es)
+reached : (es : List Event) → all_legal replay_world es ≡ true → IsReached (world_after replay_world es)
 reached es l = record { creator = 1000; size = 64; hashes = 8; events = es; legal = l; world = refl }
 
-legal_run : (es : List Event) → all_legal opening es ≡ true → IsLegalRun es
+legal_run : (es : List Event) → all_legal replay_world es ≡ true → IsLegalRun es
 legal_run es l = record {
   legal = l;
   offered = λ c free. addressed_is_offered 1000 64 8 es c l free;
   offered_so_far = λ c. offered_so_far 1000 64 8 es c l;
   paired = publishes_are_paired 1000 64 8 es l;
-  hands = λ before behind e. hands_always_agree (world_after opening before) (reached before (front_legal opening before behind (ap (all_legal opening) (sym e) ∙ l)));
-  slices = λ before behind e is. slices_always_stay (world_after opening before) e (reached before (front_legal opening before (e ∷ behind) (ap (all_legal opening) (sym is) ∙ l)));
+  hands = λ before behind e. hands_always_agree (world_after replay_world before) (reached before (front_legal replay_world before behind (ap (all_legal replay_world) (sym e) ∙ l)));
+  slices = λ before behind e is. slices_always_stay (world_after replay_world before) e (reached before (front_legal replay_world before (e ∷ behind) (ap (all_legal replay_world) (sym is) ∙ l)));
 }
 
-pub right_run : (ps : List Pair) → AreRight opening ps → IsLegalRun (events ps)
-right_run ps all = legal_run (events ps) (right_legal opening ps all)
+pub right_run : (ps : List Pair) → AreRight replay_world ps → IsLegalRun (events ps)
+right_run ps all = legal_run (events ps) (right_legal replay_world ps all)
 
 pub ok_is : {X E : Type 0} {x y : X} → x ≡ y → ◌≡◌ {A = Result X E} (Ok x) (Ok y)
 ok_is e = ap (λ z. Ok z) e

@@ -5,10 +5,11 @@ use Rattle.kd_wire.specs.Commands.{opcode_in}
 use Rattle.kd_world.specs.State.{Holder, World}
 use Rattle.kd_world.specs.Legal.{Event, take}
 use Rattle.kd_world.specs.Runs.{world_after}
+use Rattle.kd_replay.specs.Turns.{replay_world}
 use Rattle.kd_trace.specs.declared.verdict.Verdict.{Verdict}
 use Rattle.kd_trace.specs.declared.verdict.Verdict.TheVariants.{Yes, No}
 use Rattle.kd_trace.specs.Trace.{Pair, events}
-use Rattle.kd_trace.specs.Right.{AreRight, IsFirstWrong, opening}
+use Rattle.kd_trace.specs.Right.{AreRight, IsFirstWrong}
 
 -- while the desk is held, this is the number of the command with which it was taken
 abbrev pub IsNumberOf : Option Holder → ℕ → Type 0
@@ -25,8 +26,8 @@ number_with e k = k
 
 -- all pairs so far were run
 pub record AreRun (ps : List Pair) (w : World) (k count : ℕ) : Type 0 where
-  pub right : AreRight opening ps
-  pub world : w ≡ world_after opening (events ps)
+  pub right : AreRight replay_world ps
+  pub world : w ≡ world_after replay_world (events ps)
   pub number : HoldsNumber w k
   pub count_is : count ≡ length ps
 

@@ -11,7 +11,7 @@ use Rattle.kd_replay.specs.Frames.{HasNoFrame, IsCut, joined}
 use Rattle.kd_replay.specs.Transcript.{AreRunBy, Ends}
 use Rattle.kd_replay.specs.Ends.{HasReadTooMuch, WasReadToItsEnd}
 use Rattle.kd_trace.specs.Trace.{IsTrace, Pair}
-use Rattle.kd_trace.specs.Right.{AreRight, opening, outcome}
+use Rattle.kd_trace.specs.Right.{AreRight, outcome}
 
 -- events that happen one after the other, each with its answer
 unfoldable pub pairs_along : World → List Event → List Pair
@@ -26,7 +26,7 @@ pub record IsRecord (frames : List (List ℕ)) (written : List ℕ) : Type 0 whe
   pub run : AreRunBy replay_world frames events end
   pub ends : Ends replay_world events end
   pub trace : IsTrace written (pairs_along replay_world events)
-  pub right : AreRight opening (pairs_along replay_world events)
+  pub right : AreRight replay_world (pairs_along replay_world events)
 
 -- a front of the trace of the first frames was written
 abbrev pub WritesFront : List ℕ → Option (List ℕ) → Option (List ℕ) → Type 0

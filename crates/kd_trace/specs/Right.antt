@@ -5,7 +5,7 @@ use Rattle.kd_types.specs.Refusal.{refusal_number, refusal_value}
 use Rattle.kd_wire.specs.Opcodes.{opcode_number}
 use Rattle.kd_wire.specs.Commands.{opcode_in}
 use Rattle.kd_desk.specs.declared.part.Out.TheVariants as out
-use Rattle.kd_world.specs.State.{Holder, World, new_world}
+use Rattle.kd_world.specs.State.{Holder, World}
 use Rattle.kd_world.specs.Legal.{Event, legal}
 use Rattle.kd_world.specs.Answers.{says}
 use Rattle.kd_world.specs.Step.{step}
@@ -16,16 +16,12 @@ use Rattle.kd_pairs.specs.Paired.{IsPairedAlong}
 use Rattle.kd_core.specs.declared.event.Answer.{Answer}
 use Rattle.kd_core.specs.declared.event.Answer.TheVariants as answer
 use Rattle.kd_core.specs.Running.{said}
+use Rattle.kd_replay.specs.Turns.{replay_world}
 use Rattle.kd_trace.specs.declared.outcome.Outcome.{Outcome}
 use Rattle.kd_trace.specs.declared.outcome.Outcome.TheVariants.{Taken, Published, Gone, Freed, Visited, Refused, Slice, VisitRefused, Left, Got, Bytes}
 use Rattle.kd_trace.specs.declared.verdict.Verdict.{Verdict}
 use Rattle.kd_trace.specs.declared.verdict.Verdict.TheVariants.{Yes, No}
 use Rattle.kd_trace.specs.Trace.{IsTrace, Pair, events, trace_bytes}
-
--- the bus of a trace, that of a replay: made by the user 1000, with filters of 64 bytes and 8
--- hashes
-abbrev pub opening : World
-opening = new_world 1000 64 8
 
 -- the number of the command with which the desk was taken
 abbrev pub number_held : Option Holder → ℕ
@@ -67,14 +63,14 @@ pub record IsFirstWrong (ps : List Pair) (index at : ℕ) : Type 0 where
   pub wrong : Pair
   pub behind : List Pair
   pub all : ps ≡ before ++ wrong ∷ behind
-  pub right : AreRight opening before
-  pub here : IsRight (world_after opening (events before)) wrong → ⊥
+  pub right : AreRight replay_world before
+  pub here : IsRight (world_after replay_world (events before)) wrong → ⊥
   pub index_is : index ≡ length before
   pub place : at ≡ length (trace_bytes before)
 
 -- a verdict on some pairs
 abbrev pub IsVerdict : List Pair → Verdict → Type 0
-IsVerdict ps Yes = AreRight opening ps
+IsVerdict ps Yes = AreRight replay_world ps
 IsVerdict ps (No index at) = IsFirstWrong ps index at
 
 -- the verdict on bytes that are a trace
@@ -89,11 +85,11 @@ HasVerdict bytes v = (ps : List Pair) × IsTrace bytes ps × IsVerdict ps v
 -- pools, and every slice keeps its place and its bytes through it until it is let go
 pub record IsLegalRun (es : List Event) : Type 0 where
   pub legal : AreLegal 1000 64 8 es
-  pub offered : (c : ℕ) → IsNone ((world_after opening es).holder) → IsOffered 1000 64 8 c es
+  pub offered : (c : ℕ) → IsNone ((world_after replay_world es).holder) → IsOffered 1000 64 8 c es
   pub offered_so_far : (c : ℕ) → IsOfferedSoFar 1000 64 8 c es
   pub paired : IsPairedAlong 1000 64 8 es
   pub hands :
-      (before behind : List Event) → es ≡ before ++ behind → HandsAgree (world_after opening before)
+      (before behind : List Event) → es ≡ before ++ behind → HandsAgree (world_after replay_world before)
   pub slices :
       (before behind : List Event) (e : Event) → es ≡ before ++ e ∷ behind
-      → SlicesStay (world_after opening before) e
+      → SlicesStay (world_after replay_world before) e

@@ -1,35 +1,17 @@
 //! Checking a whole trace.
 
 ghost use Rattle.std.specs.Prelude.{◌≡◌, ◌≤◌, ◌<◌, ◌+◌, ◌++◌, ◌∷◌, ◌^◌, [], Err, IfOk, List, Ok, OnOk, length, ℕ};
+ghost use Rattle.kd_replay.specs.Turns.{replay_world};
 ghost use Rattle.kd_trace.specs.Trace.{BreaksAt, IsTrace, Pair, events, trace_bytes};
-ghost use Rattle.kd_trace.specs.Right.{HasVerdict, IsLegalRun, opening};
+ghost use Rattle.kd_trace.specs.Right.{HasVerdict, IsLegalRun};
 ghost use Rattle.kd_trace.specs.Fronts.{pair_of};
 ghost use Rattle.kd_trace.specs.Judging.{AreJudged};
 
 use crate::judging::Run;
 use crate::pairs::{PairRead, read_pair};
 use crate::verdict::{TraceError, Verdict};
-use kd_bloom::Param;
-use kd_core::World;
+use kd_replay::open;
 use std::alloc::{AllocError, Global};
-
-/// The user who made the bus of a trace.
-const CREATOR: u32 = 1000;
-
-/// The bus of a trace, as a replay has it: made by [`CREATOR`], with filters of 64 bytes and 8
-/// hashes.
-fn open(alloc: Global) -> Result<World, AllocError>
-    ensures { IfOk result (λ w. w ≡ record { world = opening; steps = 0 }) }
-{
-    World::make(
-        alloc,
-        CREATOR,
-        Param {
-            size: 64,
-            hashes: 8,
-        },
-    )
-}
 
 /// A check so far.
 #[derive(Drop)]
