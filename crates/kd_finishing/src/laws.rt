@@ -8,8 +8,8 @@ pub fn finishing_is_the_step()
     ensures { FinishingIsTheStep }
 {}
 
-/// A settled desk is settled when a command of a caller that it knows is finished, however the pools
-/// answered.
+/// A settled desk is settled when a command of a caller that it knows is finished, however the
+/// pools answered.
 pub fn finished_desks_are_settled()
     ensures { FinishedAreSettled }
 {}

@@ -2,9 +2,9 @@
 //! plan is finished. All of it stands in `specs/`; each function's contract is a law.
 //!
 //! ```text
-//!   desk -- plan --> plan -- visits --> answers of the pools -- finish --> reply, and the desk then
-//!    |                                                                       ^
-//!    +---------------------------- the command's step -----------------------+
+//!   desk -- plan --> plan -- visits --> answers -- finish --> reply, and the desk then
+//!    |                                                              ^
+//!    +------------------------ the command's step ------------------+
 //! ```
 #![tactic(auto)]
 
