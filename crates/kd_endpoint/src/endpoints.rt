@@ -86,6 +86,13 @@ impl Endpoints {
         }
     }
 
+    /// Removes all endpoints but the default one.
+    pub fn clear(&mut self)
+        ensures { self.new ≡ no_labels }
+    {
+        self.labels = [None, None, None, None, None, None, None, None];
+    }
+
     /// The number of the endpoint with this label: 0 for `bus`.
     #[tactic(auto, unfolding(crate::specs::Labels::label_number))]
     pub fn find(&self, label: &[u8]) -> Option<u8>

@@ -149,6 +149,13 @@ impl Matches {
         remove_all(&mut self.rules, id);
     }
 
+    /// Removes all rules. The room for them stays.
+    pub fn clear(&mut self)
+        ensures { self.new ≡ record self.old { rules = [] } }
+    {
+        self.rules.clear();
+    }
+
     /// Whether a rule of the connection admits the message or the notice: whether each of its
     /// conditions holds. A message's filter has the size of the bus's filters.
     pub fn admits(&self, id: ConnId, subject: &Subject) -> bool

@@ -107,6 +107,13 @@ impl PolicyDb {
         keep_others(&mut self.holdings, &owner);
     }
 
+    /// Takes all owners and their entries out. The room for them stays.
+    pub fn clear(&mut self)
+        ensures { self.new ≡ [] }
+    {
+        self.holdings.clear();
+    }
+
     /// The level that the list grants these credentials on the name: the greatest of those entries
     /// that have the name as their pattern, or, where there is none, of those whose wildcard covers
     /// it. None where no such entry is for the credentials.

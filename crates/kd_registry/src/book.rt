@@ -90,6 +90,14 @@ impl Book {
         self.claims[place] = claim;
     }
 
+    /// Takes out all claims.
+    pub(crate) fn clear(&mut self)
+        ensures { self.new ≡ [] }
+    {
+        self.claims.clear();
+        self.holdings.forget();
+    }
+
     /// Takes out all claims of a connection, an activator's too.
     pub(crate) fn leave(&mut self, id: ConnId)
         ensures { self.new ≡ left_by self.old id }

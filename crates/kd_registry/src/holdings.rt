@@ -54,6 +54,13 @@ impl Holdings {
         })
     }
 
+    /// No connection has claims any more.
+    pub(crate) fn forget(&mut self)
+        ensures { self.new ≡ [] }
+    {
+        self.rows.clear();
+    }
+
     /// How many claims the connection has.
     pub(crate) fn of(&self, id: ConnId) -> usize
         ensures { result ≡ claim_count (only id) self.now }

@@ -52,6 +52,13 @@ impl Registry {
         self.book.claims().len() < ROOM
     }
 
+    /// Takes all claims out. The room for them stays.
+    pub fn clear(&mut self)
+        ensures { self.new ≡ [] }
+    {
+        self.book.clear();
+    }
+
     /// Who owns the name, and whether it is an activator.
     pub fn owner(&self, name: &[u8]) -> Option<(ConnId, bool)>
         ensures { result ≡ option_map as_owner (owner self.now name.now) }

@@ -174,6 +174,14 @@ impl Seals {
         remove_of(&mut self.seals, id);
         forget(&mut self.counters, id);
     }
+
+    /// All connections have left: all seals and counters go. The room for them stays.
+    pub fn clear(&mut self)
+        ensures { self.new ≡ no_seals }
+    {
+        self.seals.clear();
+        self.counters.clear();
+    }
 }
 
 /// How many seals the connection has.
