@@ -102,4 +102,24 @@ impl Desk {
     {
         self.gone[usize::from(seat.0)] = true;
     }
+
+    /// Forgets all connections and all else that it was told, as though it had just been made, but
+    /// for the seats that wait for their callers. It takes no memory.
+    #[tactic(auto, unfolding(kd_commands::specs::State::opening_desk))]
+    pub fn clear(&mut self)
+        ensures { self.new
+            ≡ record (opening_desk self.old.creator self.old.rules.size self.old.hashes) {
+              blocked = self.old.blocked;
+            } }
+    {
+        self.conns.clear();
+        self.endpoints.clear();
+        self.policy.clear();
+        self.registry.clear();
+        self.matches.clear();
+        self.seals.clear();
+        self.replies.clear();
+        self.next_id = 1;
+        self.moment = Moment(0);
+    }
 }
