@@ -1,7 +1,8 @@
 //! A pool with its generation.
 
-ghost use Rattle.std.specs.Prelude.{◌≡◌, ◌≢◌, ◌-◌, ◌^◌, ◌∷◌, IfErr, IfOk, IsTrue, List, None, Option, ℕ, length};
+ghost use Rattle.std.specs.Prelude.{◌≡◌, ◌≢◌, ◌-◌, ◌^◌, ◌∷◌, IfErr, IfOk, IsTrue, List, None, Option, ℕ, length, true};
 ghost use Rattle.kd_acts.specs.State.{by_desk, bytes_of, free, publish, read, receive, refused};
+ghost use Rattle.kd_acts.specs.Lasting.{is_handed_in};
 ghost use Rattle.kd_acts.specs.Steps.{after, answer, is_awaited, new_pool};
 ghost use Rattle.kd_acts.specs.State as state;
 ghost use Rattle.kd_pool.specs.Told.{receive_answer};
@@ -255,6 +256,27 @@ impl Hold {
             None => Err(Refusal::WrongState),
             Some(pool) => pool.read(alloc, SliceNo(number), sealed),
         }
+    }
+
+    /// Whether the slice of a number is received and not given back; none is in a closed pool.
+    pub fn is_handed(&self, number: u32) -> bool
+        ensures { result ≡ is_handed_in number self.now }
+    {
+        match &self.pool {
+            None => false,
+            Some(pool) => pool.is_handed(SliceNo(number)),
+        }
+    }
+
+    /// Closes it, whatever waits in it.
+    #[tactic(auto, unfolding(kd_acts::specs::Steps::pool_step))]
+    pub fn shut(&mut self)
+        requires counts { IsBelow (2 ^ 63 - 1) self.old }
+        ensures after { self.new ≡ after self.old (by_desk (state.close true)) }
+        ensures answer { answer self.old (by_desk (state.close true)) ≡ state.done }
+    {
+        self.pool = None;
+        self.generation += 1;
     }
 
     /// Gives a slice back that was received; nothing else is changed by it.

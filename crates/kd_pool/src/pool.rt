@@ -1,10 +1,11 @@
 //! The pool, and what it counts.
 
-ghost use Rattle.std.specs.Prelude.{◌≡◌, ◌≤◌, ◌%◌, IfOk};
+ghost use Rattle.std.specs.Prelude.{◌≡◌, ◌≤◌, ◌%◌, ◌&&◌, IfOk};
 ghost use Rattle.kd_model.specs.Slices.{used};
 ghost use Rattle.kd_model.specs.Words.{some_of};
 ghost use Rattle.kd_acts.specs.Sound.{IsSoundPool};
-ghost use Rattle.kd_acts.specs.State.{book_of, is_pending, slots};
+ghost use Rattle.kd_acts.specs.Lasting.{is_handed};
+ghost use Rattle.kd_acts.specs.State.{book_of, is_pending, slot_numbered, slots};
 ghost use Rattle.kd_acts.specs.Steps.{new_pool, reserved_length};
 ghost use Rattle.kd_pool.specs.declared.memory.TheConstants.{LARGEST};
 
@@ -127,5 +128,13 @@ impl Pool {
         ensures { result ≡ some_of is_pending (slots self.now) }
     {
         table::some_pending(&self.slots)
+    }
+
+    /// Whether the slice of a number is received and not given back.
+    pub fn is_handed(&self, number: SliceNo) -> bool
+        ensures { result
+            ≡ some_of (λ s. slot_numbered number s && is_handed s) (slots self.now) }
+    {
+        table::is_handed(&self.slots, number)
     }
 }

@@ -3,6 +3,7 @@
 ghost use Rattle.std.specs.Prelude.{if◌then◌else◌, [], ◌∷◌, ◌≡◌, ◌<◌, ◌≤◌, ◌&&◌, Some, length, map, nat_lt, vec_capacity, vec_len};
 ghost use Rattle.std.specs.List.{position};
 ghost use Rattle.kd_model.specs.Words.{but_those, first, lesser, put_in_order, some_of};
+ghost use Rattle.kd_acts.specs.Lasting.{is_handed};
 ghost use Rattle.kd_acts.specs.State.{slot_numbered, is_freed, lies_lower, is_pending, is_pending_of, is_readable, is_waiting, queue_of, waiting_slots};
 ghost use Rattle.kd_pool.specs.Table.{AreFound, HaveOwnNumbers, reserved_first};
 ghost use Rattle.kd_acts.specs.Steps.{free_refusal, in_phase, length_reserved, now_queued, of_lower_number, over_quota};
@@ -98,6 +99,13 @@ pub fn find_readable(slots: &[Slot], number: SliceNo) -> Option<Slot>
 {
     slots.iter().copied().find(|slot| slot.number == number
         && matches!(slot.phase, Phase::Peeked | Phase::Handed))
+}
+
+/// Whether the slice of a number is received and not given back.
+pub fn is_handed(slots: &[Slot], number: SliceNo) -> bool
+    ensures { result ≡ some_of (λ s. slot_numbered number s && is_handed s) slots.now }
+{
+    slots.iter().any(|slot| slot.number == number && matches!(slot.phase, Phase::Handed))
 }
 
 /// Why the receiver can't free a number, if it can't.
