@@ -53,7 +53,7 @@ impl SliceBook for Links {
         let Some(behind) = bins::smallest(&self.chain, len) else {
             return Err(NoPlace::Full);
         };
-        let Span { offset, len: room } = self.chain.span(GAPS + behind);
+        let Span { offset, len: room } = self.chain.span_inside(GAPS + behind);
         self.chain.put_behind(behind, number, Span { offset, len });
         bins::refile(&mut self.chain, behind, Span { offset: 0, len: 0 });
         let rest = span_from(offset + len, room - len);
@@ -64,10 +64,10 @@ impl SliceBook for Links {
 
     fn give_back(&mut self, number: SliceNo) {
         let number = number.0;
-        let span = self.chain.span(number);
+        let span = self.chain.span_inside(number);
         let before = self.chain.previous(number);
-        let left = self.chain.span(GAPS + before).len;
-        let right = self.chain.span(GAPS + number).len;
+        let left = self.chain.span_inside(GAPS + before).len;
+        let right = self.chain.span_inside(GAPS + number).len;
         self.chain.take_out(number);
         bins::refile(&mut self.chain, number, Span { offset: 0, len: 0 });
         let whole = span_from(span.offset - left, left + span.len + right);
@@ -124,5 +124,5 @@ fn is_used(chain: &Chain, size: u32, number: u32) -> bool
     requires low { number ≤ START }
     ensures { result ≡ some_of (has_number number) (slices_of chain.now) }
 {
-    chain.span(number).len > 0
+    chain.span_inside(number).len > 0
 }

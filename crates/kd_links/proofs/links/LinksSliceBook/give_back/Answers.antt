@@ -14,6 +14,14 @@ use Rattle.kd_links.proofs.Books.{number_in}
 use Rattle.kd_links.proofs.Placing.{GivesBack, IsAfter, before_in, before_low, filed_one_less, given_back, low_of, one_less, part_of, sides}
 use Rattle.kd_links.proofs.links.LinksSliceBook.give_back.Goals as goal
 
+pub span_inside-span-requires : goal.span_inside-span-requires
+span_inside-span-requires c =
+    let size = c.self.inside.size in let chain = c.self.inside.chain in let n = c.number.inside.0 in
+    let placed : is_placed n (chain_book size chain) ≡ true = rw (← c.self.view_is, ← c.number.view_is) at c.requires in
+    let among : contains n chain.order ≡ true = sym (number_in chain.spans n chain.order) ∙ placed in
+    let low = low_of size chain n c.self.invariant.kept among in
+    omega (arith, low, c.self.invariant.kept.count)
+
 pub previous-before-requires : goal.previous-before-requires
 previous-before-requires c =
     let size = c.self.inside.size in let chain = c.self.inside.chain in let n = c.number.inside.0 in
@@ -37,6 +45,23 @@ overflow_add-number c =
     let among : contains n chain.order ≡ true = sym (number_in chain.spans n chain.order) ∙ placed in
     let low = low_of size chain n c.self.invariant.kept among in
     record { fits = omega arith }
+
+pub span_inside-left-requires : goal.span_inside-left-requires
+span_inside-left-requires c =
+    let size = c.self.inside.size in let chain = c.self.inside.chain in let n = c.number.inside.0 in
+    let placed : is_placed n (chain_book size chain) ≡ true = rw (← c.self.view_is, ← c.number.view_is) at c.requires in
+    let among : contains n chain.order ≡ true = sym (number_in chain.spans n chain.order) ∙ placed in
+    let low = before_low size chain n c.self.invariant.kept among in
+    let is = c.previous-before.ensures in
+    omega (arith, low, is, c.self.invariant.kept.count)
+
+pub span_inside-right-requires : goal.span_inside-right-requires
+span_inside-right-requires c =
+    let size = c.self.inside.size in let chain = c.self.inside.chain in let n = c.number.inside.0 in
+    let placed : is_placed n (chain_book size chain) ≡ true = rw (← c.self.view_is, ← c.number.view_is) at c.requires in
+    let among : contains n chain.order ≡ true = sym (number_in chain.spans n chain.order) ∙ placed in
+    let low = low_of size chain n c.self.invariant.kept among in
+    omega (arith, low, c.self.invariant.kept.count)
 
 pub take_out-requires : goal.take_out-requires
 take_out-requires c =
@@ -65,10 +90,10 @@ overflow_sub-span c =
     let size = c.self.inside.size in let chain = c.self.inside.chain in let n = c.number.inside.0 in
     let placed : is_placed n (chain_book size chain) ≡ true = rw (← c.self.view_is, ← c.number.view_is) at c.requires in
     let among : contains n chain.order ≡ true = sym (number_in chain.spans n chain.order) ∙ placed in
-    let left : c.span-left.result ≡ slice_index_or chain.spans (GAPS + before_in chain n) no_span = c.span-left.ensures ∙ ap (λ k. slice_index_or chain.spans (GAPS + k) no_span) c.previous-before.ensures in
-    let left_len : c.span-left.result.len ≡ (rank chain.spans (GAPS + before_in chain n)).len = ap (λ (t : Span). t.len) left in
-    let offset : c.span-span.result.offset ≡ (slice_of chain.spans n).offset = ap (λ (t : Span). t.offset) c.span-span.ensures in
-    let len : c.span-span.result.len ≡ (slice_of chain.spans n).len = ap (λ (t : Span). t.len) c.span-span.ensures in
+    let left : c.span_inside-left.result ≡ slice_index_or chain.spans (GAPS + before_in chain n) no_span = c.span_inside-left.ensures ∙ ap (λ k. slice_index_or chain.spans (GAPS + k) no_span) c.previous-before.ensures in
+    let left_len : c.span_inside-left.result.len ≡ (rank chain.spans (GAPS + before_in chain n)).len = ap (λ (t : Span). t.len) left in
+    let offset : c.span_inside-span.result.offset ≡ (slice_of chain.spans n).offset = ap (λ (t : Span). t.offset) c.span_inside-span.ensures in
+    let len : c.span_inside-span.result.len ≡ (slice_of chain.spans n).len = ap (λ (t : Span). t.len) c.span_inside-span.ensures in
     let beside = sides size chain n c.self.invariant.kept c.self.invariant.binned among in
     omega (arith, left_len, offset, beside.0)
 
@@ -77,12 +102,12 @@ overflow_add-left c =
     let size = c.self.inside.size in let chain = c.self.inside.chain in let n = c.number.inside.0 in
     let placed : is_placed n (chain_book size chain) ≡ true = rw (← c.self.view_is, ← c.number.view_is) at c.requires in
     let among : contains n chain.order ≡ true = sym (number_in chain.spans n chain.order) ∙ placed in
-    let left : c.span-left.result ≡ slice_index_or chain.spans (GAPS + before_in chain n) no_span = c.span-left.ensures ∙ ap (λ k. slice_index_or chain.spans (GAPS + k) no_span) c.previous-before.ensures in
-    let left_len : c.span-left.result.len ≡ (rank chain.spans (GAPS + before_in chain n)).len = ap (λ (t : Span). t.len) left in
-    let offset : c.span-span.result.offset ≡ (slice_of chain.spans n).offset = ap (λ (t : Span). t.offset) c.span-span.ensures in
-    let len : c.span-span.result.len ≡ (slice_of chain.spans n).len = ap (λ (t : Span). t.len) c.span-span.ensures in
+    let left : c.span_inside-left.result ≡ slice_index_or chain.spans (GAPS + before_in chain n) no_span = c.span_inside-left.ensures ∙ ap (λ k. slice_index_or chain.spans (GAPS + k) no_span) c.previous-before.ensures in
+    let left_len : c.span_inside-left.result.len ≡ (rank chain.spans (GAPS + before_in chain n)).len = ap (λ (t : Span). t.len) left in
+    let offset : c.span_inside-span.result.offset ≡ (slice_of chain.spans n).offset = ap (λ (t : Span). t.offset) c.span_inside-span.ensures in
+    let len : c.span_inside-span.result.len ≡ (slice_of chain.spans n).len = ap (λ (t : Span). t.len) c.span_inside-span.ensures in
     let beside = sides size chain n c.self.invariant.kept c.self.invariant.binned among in
-    let right_len : c.span-right.result.len ≡ (rank chain.spans (GAPS + n)).len = ap (λ (t : Span). t.len) c.span-right.ensures in
+    let right_len : c.span_inside-right.result.len ≡ (rank chain.spans (GAPS + n)).len = ap (λ (t : Span). t.len) c.span_inside-right.ensures in
     let small = c.self.invariant.kept.fits in
     record { fits = omega (arith, left_len, offset, len, beside.0, beside.1, small) }
 
@@ -91,12 +116,12 @@ overflow_add-left-2 c =
     let size = c.self.inside.size in let chain = c.self.inside.chain in let n = c.number.inside.0 in
     let placed : is_placed n (chain_book size chain) ≡ true = rw (← c.self.view_is, ← c.number.view_is) at c.requires in
     let among : contains n chain.order ≡ true = sym (number_in chain.spans n chain.order) ∙ placed in
-    let left : c.span-left.result ≡ slice_index_or chain.spans (GAPS + before_in chain n) no_span = c.span-left.ensures ∙ ap (λ k. slice_index_or chain.spans (GAPS + k) no_span) c.previous-before.ensures in
-    let left_len : c.span-left.result.len ≡ (rank chain.spans (GAPS + before_in chain n)).len = ap (λ (t : Span). t.len) left in
-    let offset : c.span-span.result.offset ≡ (slice_of chain.spans n).offset = ap (λ (t : Span). t.offset) c.span-span.ensures in
-    let len : c.span-span.result.len ≡ (slice_of chain.spans n).len = ap (λ (t : Span). t.len) c.span-span.ensures in
+    let left : c.span_inside-left.result ≡ slice_index_or chain.spans (GAPS + before_in chain n) no_span = c.span_inside-left.ensures ∙ ap (λ k. slice_index_or chain.spans (GAPS + k) no_span) c.previous-before.ensures in
+    let left_len : c.span_inside-left.result.len ≡ (rank chain.spans (GAPS + before_in chain n)).len = ap (λ (t : Span). t.len) left in
+    let offset : c.span_inside-span.result.offset ≡ (slice_of chain.spans n).offset = ap (λ (t : Span). t.offset) c.span_inside-span.ensures in
+    let len : c.span_inside-span.result.len ≡ (slice_of chain.spans n).len = ap (λ (t : Span). t.len) c.span_inside-span.ensures in
     let beside = sides size chain n c.self.invariant.kept c.self.invariant.binned among in
-    let right_len : c.span-right.result.len ≡ (rank chain.spans (GAPS + n)).len = ap (λ (t : Span). t.len) c.span-right.ensures in
+    let right_len : c.span_inside-right.result.len ≡ (rank chain.spans (GAPS + n)).len = ap (λ (t : Span). t.len) c.span_inside-right.ensures in
     let small = c.self.invariant.kept.fits in
     record { fits = omega (arith, left_len, offset, len, right_len, beside.0, beside.1, small) }
 
@@ -114,10 +139,10 @@ overflow_sub-self c =
     let size = c.self.inside.size in let chain = c.self.inside.chain in let n = c.number.inside.0 in
     let placed : is_placed n (chain_book size chain) ≡ true = rw (← c.self.view_is, ← c.number.view_is) at c.requires in
     let among : contains n chain.order ≡ true = sym (number_in chain.spans n chain.order) ∙ placed in
-    let left : c.span-left.result ≡ slice_index_or chain.spans (GAPS + before_in chain n) no_span = c.span-left.ensures ∙ ap (λ k. slice_index_or chain.spans (GAPS + k) no_span) c.previous-before.ensures in
-    let left_len : c.span-left.result.len ≡ (rank chain.spans (GAPS + before_in chain n)).len = ap (λ (t : Span). t.len) left in
-    let offset : c.span-span.result.offset ≡ (slice_of chain.spans n).offset = ap (λ (t : Span). t.offset) c.span-span.ensures in
-    let len : c.span-span.result.len ≡ (slice_of chain.spans n).len = ap (λ (t : Span). t.len) c.span-span.ensures in
+    let left : c.span_inside-left.result ≡ slice_index_or chain.spans (GAPS + before_in chain n) no_span = c.span_inside-left.ensures ∙ ap (λ k. slice_index_or chain.spans (GAPS + k) no_span) c.previous-before.ensures in
+    let left_len : c.span_inside-left.result.len ≡ (rank chain.spans (GAPS + before_in chain n)).len = ap (λ (t : Span). t.len) left in
+    let offset : c.span_inside-span.result.offset ≡ (slice_of chain.spans n).offset = ap (λ (t : Span). t.offset) c.span_inside-span.ensures in
+    let len : c.span_inside-span.result.len ≡ (slice_of chain.spans n).len = ap (λ (t : Span). t.len) c.span_inside-span.ensures in
     let beside = sides size chain n c.self.invariant.kept c.self.invariant.binned among in
     let part = part_of size c.self.inside.used n chain c.take_out.new.self c.self.invariant among (one_less size n chain c.take_out.new.self c.self.invariant.kept among c.take_out.ensures.order c.take_out.ensures.gaps c.take_out.ensures.spans) in
     omega (arith, part, len)
@@ -127,19 +152,19 @@ abbrev together : Span → Span → Span → Gap
 together s l r = lying (s.offset - l.len) (s.offset + s.len + r.len)
 
 -- the book afterwards
-after : (c : goal.After-self-1) → IsAfter c.self.inside.size (c.self.inside.used - c.span-span.result.len) (but_those (has_number c.number.inside.0) (slices_of c.self.inside.chain)) c.refile-2.new.chain
+after : (c : goal.After-self-1) → IsAfter c.self.inside.size (c.self.inside.used - c.span_inside-span.result.len) (but_those (has_number c.number.inside.0) (slices_of c.self.inside.chain)) c.refile-2.new.chain
 after c =
     let size = c.self.inside.size in let chain = c.self.inside.chain in let n = c.number.inside.0 in
     let placed : is_placed n (chain_book size chain) ≡ true = rw (← c.self.view_is, ← c.number.view_is) at c.requires in
     let among : contains n chain.order ≡ true = sym (number_in chain.spans n chain.order) ∙ placed in
-    let left : c.span-left.result ≡ slice_index_or chain.spans (GAPS + before_in chain n) no_span = c.span-left.ensures ∙ ap (λ k. slice_index_or chain.spans (GAPS + k) no_span) c.previous-before.ensures in
-    let left_len : c.span-left.result.len ≡ (rank chain.spans (GAPS + before_in chain n)).len = ap (λ (t : Span). t.len) left in
-    let offset : c.span-span.result.offset ≡ (slice_of chain.spans n).offset = ap (λ (t : Span). t.offset) c.span-span.ensures in
-    let len : c.span-span.result.len ≡ (slice_of chain.spans n).len = ap (λ (t : Span). t.len) c.span-span.ensures in
+    let left : c.span_inside-left.result ≡ slice_index_or chain.spans (GAPS + before_in chain n) no_span = c.span_inside-left.ensures ∙ ap (λ k. slice_index_or chain.spans (GAPS + k) no_span) c.previous-before.ensures in
+    let left_len : c.span_inside-left.result.len ≡ (rank chain.spans (GAPS + before_in chain n)).len = ap (λ (t : Span). t.len) left in
+    let offset : c.span_inside-span.result.offset ≡ (slice_of chain.spans n).offset = ap (λ (t : Span). t.offset) c.span_inside-span.ensures in
+    let len : c.span_inside-span.result.len ≡ (slice_of chain.spans n).len = ap (λ (t : Span). t.len) c.span_inside-span.ensures in
     let beside = sides size chain n c.self.invariant.kept c.self.invariant.binned among in
     let whole = c.span_from-whole.result in
-    let low : c.span-left.result.len ≤ c.span-span.result.offset = omega (arith, left_len, offset, beside.0) in
-    let sum : c.span-span.result.offset - c.span-left.result.len + (c.span-left.result.len + c.span-span.result.len + c.span-right.result.len) ≡ c.span-span.result.offset + c.span-span.result.len + c.span-right.result.len = omega arith in
+    let low : c.span_inside-left.result.len ≤ c.span_inside-span.result.offset = omega (arith, left_len, offset, beside.0) in
+    let sum : c.span_inside-span.result.offset - c.span_inside-left.result.len + (c.span_inside-left.result.len + c.span_inside-span.result.len + c.span_inside-right.result.len) ≡ c.span_inside-span.result.offset + c.span_inside-span.result.len + c.span_inside-right.result.len = omega arith in
     let d : GivesBack n chain c.take_out.new.self c.refile.new.chain c.refile-2.new.chain whole = record {
       order1 = c.take_out.ensures.order;
       gaps1 = c.take_out.ensures.gaps;
@@ -149,7 +174,7 @@ after c =
       order3 = c.refile-2.ensures.order;
       filed3 = c.refile-2.ensures.filed;
       spans3 = c.refile-2.ensures.spans ∙ ap (λ k. set c.refile.new.chain.spans (GAPS + k) whole) c.previous-before.ensures;
-      merged = c.span_from-whole.ensures ∙ ap (lying (c.span-span.result.offset - c.span-left.result.len)) sum ∙ ap (λ s. together s c.span-left.result c.span-right.result) c.span-span.ensures ∙ ap (λ l. together (slice_index_or chain.spans n no_span) l c.span-right.result) left ∙ ap (together (slice_index_or chain.spans n no_span) (slice_index_or chain.spans (GAPS + before_in chain n) no_span)) c.span-right.ensures;
+      merged = c.span_from-whole.ensures ∙ ap (lying (c.span_inside-span.result.offset - c.span_inside-left.result.len)) sum ∙ ap (λ s. together s c.span_inside-left.result c.span_inside-right.result) c.span_inside-span.ensures ∙ ap (λ l. together (slice_index_or chain.spans n no_span) l c.span_inside-right.result) left ∙ ap (together (slice_index_or chain.spans n no_span) (slice_index_or chain.spans (GAPS + before_in chain n) no_span)) c.span_inside-right.ensures;
     } in
     rw len (given_back size c.self.inside.used n chain c.take_out.new.self c.refile.new.chain c.refile-2.new.chain whole c.self.invariant among d)
 

@@ -33,6 +33,14 @@ overflow_add-behind c =
     let low = fit_low chain c.args.len p w.fit in
     record { fits = omega arith }
 
+pub span_inside-offset-requires : goal.span_inside-offset-requires
+span_inside-offset-requires c =
+    let size = c.self.inside.size in let chain = c.self.inside.chain in
+    let p = c.in-Some-smallest.behind in let n = c.in-Some.number in
+    let w = placing size c.self.inside.used c.args.len p n chain c.self.invariant c.requires.some c.requires.eights (sym c.lowest_unused.ensures ∙ c.in-Some.is) (sym c.smallest.ensures ∙ ap (option_map (λ n. GAPS + n)) c.in-Some-smallest.is) in
+    let low = fit_low chain c.args.len p w.fit in
+    omega (arith, low, w.kept.count)
+
 pub put_behind-requires-clause-place : goal.put_behind-requires-clause-place
 put_behind-requires-clause-place c =
     let size = c.self.inside.size in let chain = c.self.inside.chain in
@@ -66,7 +74,7 @@ refile-requires-clause-filed c =
     let size = c.self.inside.size in let chain = c.self.inside.chain in
     let p = c.in-Some-smallest.behind in let n = c.in-Some.number in
     let w = placing size c.self.inside.used c.args.len p n chain c.self.invariant c.requires.some c.requires.eights (sym c.lowest_unused.ensures ∙ c.in-Some.is) (sym c.smallest.ensures ∙ ap (option_map (λ n. GAPS + n)) c.in-Some-smallest.is) in
-    let spans : c.put_behind.new.self.spans ≡ set chain.spans n (new_span chain p c.args.len) = c.put_behind.ensures.spans ∙ ap (λ (t : Span). set chain.spans n (record { offset = t.offset; len = c.args.len })) c.span-offset.ensures in
+    let spans : c.put_behind.new.self.spans ≡ set chain.spans n (new_span chain p c.args.len) = c.put_behind.ensures.spans ∙ ap (λ (t : Span). set chain.spans n (record { offset = t.offset; len = c.args.len })) c.span_inside-offset.ensures in
     filed_one_more size c.args.len p n chain c.put_behind.new.self w c.put_behind.ensures.gaps spans
 
 pub refile-requires-clause-number : goal.refile-requires-clause-number
@@ -81,8 +89,8 @@ overflow_add-offset c =
     let size = c.self.inside.size in let chain = c.self.inside.chain in
     let p = c.in-Some-smallest.behind in let n = c.in-Some.number in
     let w = placing size c.self.inside.used c.args.len p n chain c.self.invariant c.requires.some c.requires.eights (sym c.lowest_unused.ensures ∙ c.in-Some.is) (sym c.smallest.ensures ∙ ap (option_map (λ n. GAPS + n)) c.in-Some-smallest.is) in
-    let start : c.span-offset.result.offset ≡ (rank chain.spans (GAPS + p)).start = ap (λ (t : Span). t.offset) c.span-offset.ensures in
-    let room : c.span-offset.result.len ≡ (rank chain.spans (GAPS + p)).len = ap (λ (t : Span). t.len) c.span-offset.ensures in
+    let start : c.span_inside-offset.result.offset ≡ (rank chain.spans (GAPS + p)).start = ap (λ (t : Span). t.offset) c.span_inside-offset.ensures in
+    let room : c.span_inside-offset.result.len ≡ (rank chain.spans (GAPS + p)).len = ap (λ (t : Span). t.len) c.span_inside-offset.ensures in
     let within = within_pool size c.args.len p n chain w in
     let enough = (best_of size c.args.len p n chain w).enough in
     let small = w.kept.fits in
@@ -93,8 +101,8 @@ overflow_sub-room c =
     let size = c.self.inside.size in let chain = c.self.inside.chain in
     let p = c.in-Some-smallest.behind in let n = c.in-Some.number in
     let w = placing size c.self.inside.used c.args.len p n chain c.self.invariant c.requires.some c.requires.eights (sym c.lowest_unused.ensures ∙ c.in-Some.is) (sym c.smallest.ensures ∙ ap (option_map (λ n. GAPS + n)) c.in-Some-smallest.is) in
-    let start : c.span-offset.result.offset ≡ (rank chain.spans (GAPS + p)).start = ap (λ (t : Span). t.offset) c.span-offset.ensures in
-    let room : c.span-offset.result.len ≡ (rank chain.spans (GAPS + p)).len = ap (λ (t : Span). t.len) c.span-offset.ensures in
+    let start : c.span_inside-offset.result.offset ≡ (rank chain.spans (GAPS + p)).start = ap (λ (t : Span). t.offset) c.span_inside-offset.ensures in
+    let room : c.span_inside-offset.result.len ≡ (rank chain.spans (GAPS + p)).len = ap (λ (t : Span). t.len) c.span_inside-offset.ensures in
     let enough = (best_of size c.args.len p n chain w).enough in
     omega (arith, room, enough)
 
@@ -111,22 +119,22 @@ overflow_add-self c =
     let size = c.self.inside.size in let chain = c.self.inside.chain in
     let p = c.in-Some-smallest.behind in let n = c.in-Some.number in
     let w = placing size c.self.inside.used c.args.len p n chain c.self.invariant c.requires.some c.requires.eights (sym c.lowest_unused.ensures ∙ c.in-Some.is) (sym c.smallest.ensures ∙ ap (option_map (λ n. GAPS + n)) c.in-Some-smallest.is) in
-    let spans : c.put_behind.new.self.spans ≡ set chain.spans n (new_span chain p c.args.len) = c.put_behind.ensures.spans ∙ ap (λ (t : Span). set chain.spans n (record { offset = t.offset; len = c.args.len })) c.span-offset.ensures in
+    let spans : c.put_behind.new.self.spans ≡ set chain.spans n (new_span chain p c.args.len) = c.put_behind.ensures.spans ∙ ap (λ (t : Span). set chain.spans n (record { offset = t.offset; len = c.args.len })) c.span_inside-offset.ensures in
     let fit = bytes_fit size c.self.inside.used c.args.len p n chain c.put_behind.new.self w c.self.invariant.total c.put_behind.ensures.order c.put_behind.ensures.gaps spans in
     let small = w.kept.fits in
     record { fits = omega (arith, fit, small) }
 
 -- the book afterwards
-after : (c : goal.After-self-1) → IsAfter c.self.inside.size (c.self.inside.used + c.args.len) (put_in_order is_lower (record { number = c.in-Some.number; offset = c.span-offset.result.offset; len = c.args.len }) (slices_of c.self.inside.chain)) c.refile-2.new.chain
+after : (c : goal.After-self-1) → IsAfter c.self.inside.size (c.self.inside.used + c.args.len) (put_in_order is_lower (record { number = c.in-Some.number; offset = c.span_inside-offset.result.offset; len = c.args.len }) (slices_of c.self.inside.chain)) c.refile-2.new.chain
 after c =
     let size = c.self.inside.size in let chain = c.self.inside.chain in
     let p = c.in-Some-smallest.behind in let n = c.in-Some.number in
     let w = placing size c.self.inside.used c.args.len p n chain c.self.invariant c.requires.some c.requires.eights (sym c.lowest_unused.ensures ∙ c.in-Some.is) (sym c.smallest.ensures ∙ ap (option_map (λ n. GAPS + n)) c.in-Some-smallest.is) in
-    let spans : c.put_behind.new.self.spans ≡ set chain.spans n (new_span chain p c.args.len) = c.put_behind.ensures.spans ∙ ap (λ (t : Span). set chain.spans n (record { offset = t.offset; len = c.args.len })) c.span-offset.ensures in
-    let start : c.span-offset.result.offset ≡ (rank chain.spans (GAPS + p)).start = ap (λ (t : Span). t.offset) c.span-offset.ensures in
-    let room : c.span-offset.result.len ≡ (rank chain.spans (GAPS + p)).len = ap (λ (t : Span). t.len) c.span-offset.ensures in
+    let spans : c.put_behind.new.self.spans ≡ set chain.spans n (new_span chain p c.args.len) = c.put_behind.ensures.spans ∙ ap (λ (t : Span). set chain.spans n (record { offset = t.offset; len = c.args.len })) c.span_inside-offset.ensures in
+    let start : c.span_inside-offset.result.offset ≡ (rank chain.spans (GAPS + p)).start = ap (λ (t : Span). t.offset) c.span_inside-offset.ensures in
+    let room : c.span_inside-offset.result.len ≡ (rank chain.spans (GAPS + p)).len = ap (λ (t : Span). t.len) c.span_inside-offset.ensures in
     let enough : c.args.len ≤ (rank chain.spans (GAPS + p)).len = (best_of size c.args.len p n chain w).enough in
-    let sum : c.span-offset.result.offset + c.args.len + (c.span-offset.result.len - c.args.len) ≡ c.span-offset.result.offset + c.span-offset.result.len = omega (arith, room, enough) in
+    let sum : c.span_inside-offset.result.offset + c.args.len + (c.span_inside-offset.result.len - c.args.len) ≡ c.span_inside-offset.result.offset + c.span_inside-offset.result.len = omega (arith, room, enough) in
     let d : Places c.args.len p n chain c.put_behind.new.self c.refile.new.chain c.refile-2.new.chain c.span_from-rest.result = record {
       order1 = c.put_behind.ensures.order;
       gaps1 = c.put_behind.ensures.gaps;
@@ -136,7 +144,7 @@ after c =
       order3 = c.refile-2.ensures.order;
       filed3 = c.refile-2.ensures.filed;
       spans3 = c.refile-2.ensures.spans;
-      left = c.span_from-rest.ensures ∙ ap (lying (c.span-offset.result.offset + c.args.len)) sum ∙ ap (λ (t : Span). lying (t.offset + c.args.len) (t.offset + t.len)) c.span-offset.ensures;
+      left = c.span_from-rest.ensures ∙ ap (lying (c.span_inside-offset.result.offset + c.args.len)) sum ∙ ap (λ (t : Span). lying (t.offset + c.args.len) (t.offset + t.len)) c.span_inside-offset.ensures;
     } in
     rw start (placed size c.self.inside.used c.args.len p n chain c.put_behind.new.self c.refile.new.chain c.refile-2.new.chain c.span_from-rest.result w c.self.invariant.total d)
 
@@ -148,7 +156,7 @@ returns-clause-offset c =
     let size = c.self.inside.size in let chain = c.self.inside.chain in
     let p = c.in-Some-smallest.behind in let n = c.in-Some.number in
     let w = placing size c.self.inside.used c.args.len p n chain c.self.invariant c.requires.some c.requires.eights (sym c.lowest_unused.ensures ∙ c.in-Some.is) (sym c.smallest.ensures ∙ ap (option_map (λ n. GAPS + n)) c.in-Some-smallest.is) in
-    rw (← c.self.view_is) (placed_at size c.args.len p n chain w ∙ ap (λ (t : Span). Some t.offset) (sym c.span-offset.ensures))
+    rw (← c.self.view_is) (placed_at size c.args.len p n chain w ∙ ap (λ (t : Span). Some t.offset) (sym c.span_inside-offset.ensures))
 
 pub returns-clause-placed : goal.returns-clause-placed
 returns-clause-placed c = rw (← c.self.view_is) (ap (λ (ss : List Placed). record { size = c.self.inside.size; slices = ss }) (after c).slices_are)
