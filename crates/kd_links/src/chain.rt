@@ -101,6 +101,14 @@ impl Chain {
         self.nodes[number as usize].span
     }
 
+    /// The span of a gap or the head.
+    pub fn gap_span(&self, number: u32) -> Span
+        requires { IsTrue (contains number (HEAD ∷ self.now.gaps)) }
+        ensures { result ≡ slice_index_or self.now.spans number no_span }
+    {
+        self.nodes[number as usize].span
+    }
+
     /// Puts a new slice behind another or the start, and gives it a span.
     pub fn put_behind(&mut self, place: u32, number: u32, span: Span)
         requires place { IsTrue (contains place (START ∷ self.old.order)) }
