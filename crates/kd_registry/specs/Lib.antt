@@ -4,3 +4,4 @@ pub mod Claims
 pub mod Changes
 -- what the functions inside the crate promise each other
 pub mod Counts
+pub mod Spans

@@ -1,12 +1,14 @@
 //! Giving names up, one by one or all at once.
 
-ghost use Rattle.std.specs.Prelude.{◌≡◌};
-ghost use Rattle.kd_registry.specs.Claims.{after_release, heir, left_by, release_answer};
+ghost use Rattle.std.specs.Prelude.{◌≡◌, IsTrue, IfOk, IfErr, Ok, Err};
+ghost use Rattle.kd_registry.specs.Claims.{after_release, heir, left_by, ranked, release_answer};
+ghost use Rattle.kd_registry.specs.Spans.{IsSpanOf};
 
+use crate::book::Book;
 use crate::claim::Claim;
 use crate::edits::withdraw;
 use crate::registry::Registry;
-use crate::search::{has_claim, ranks};
+use crate::search::{Span, claims_at, has_claim, span_of};
 use kd_name::is_name;
 use kd_types::{ConnId, Refusal};
 
@@ -20,22 +22,37 @@ fn heir(ranks: &[Claim], id: ConnId) -> ConnId
     }
 }
 
+/// Who owns the name once the connection has given up its claim, and where the claims on it stand.
+fn ask_release(book: &Book, id: ConnId, name: &[u8]) -> Result<(Span, ConnId), Refusal>
+    requires { IsTrue (ranked book.now) }
+    ensures span { IfOk result (λ found. IsSpanOf book.now name.now found.0) }
+    ensures ok { IfOk result (λ found. Ok found.1 ≡ release_answer book.now id name.now) }
+    ensures err { IfErr result (λ refusal. Err refusal ≡ release_answer book.now id name.now) }
+{
+    if !is_name(name) {
+        return Err(Refusal::BadName);
+    }
+    let span = span_of(book.claims(), name);
+    let mine = claims_at(book.claims(), span);
+    if mine.is_empty() {
+        return Err(Refusal::NoSuchName);
+    }
+    if !has_claim(mine, id) {
+        return Err(Refusal::NotOwner);
+    }
+    let owner = heir(mine, id);
+    Ok((span, owner))
+}
+
 impl Registry {
     /// What [`Registry::release`] would be answered.
     pub fn may_release(&self, id: ConnId, name: &[u8]) -> Result<ConnId, Refusal>
         ensures { result ≡ release_answer self.now id name.now }
     {
-        if !is_name(name) {
-            return Err(Refusal::BadName);
+        match ask_release(&self.book, id, name) {
+            Ok((_, owner)) => Ok(owner),
+            Err(refusal) => Err(refusal),
         }
-        let mine = ranks(self.book.claims(), name);
-        if mine.is_empty() {
-            return Err(Refusal::NoSuchName);
-        }
-        if !has_claim(mine, id) {
-            return Err(Refusal::NotOwner);
-        }
-        Ok(heir(mine, id))
     }
 
     /// A connection gives up its claim on a name, as owner or in the queue. Answers the owner after
@@ -45,8 +62,8 @@ impl Registry {
         ensures answer { result ≡ release_answer self.old id name.now }
         ensures after { self.new ≡ after_release self.old id name.now result }
     {
-        let owner = self.may_release(id, name)?;
-        withdraw(&mut self.book, id, name);
+        let (span, owner) = ask_release(&self.book, id, name)?;
+        withdraw(&mut self.book, id, span);
         Ok(owner)
     }
 

@@ -10,5 +10,5 @@ pub invariant_of-self : goal.invariant_of-self
 invariant_of-self c =
     let r = c.self.inside.book in
     let n = c.args.name in
-    let none : some_of is_placeholder (ranks r n) ≡ false = activated_none r n _ (c.in_ok-may_activate.ensures ∙ ap (λ m. activator_answer c.args.self.now m) c.bytes.ensures ∙ ap (λ z. activator_answer z n) (sym c.self.view_is)) in
+    let none : some_of is_placeholder (ranks r n) ≡ false = activated_none r n _ (c.in_ok-span.ensures.ok ∙ ap (λ m. activator_answer r m) c.bytes.ensures) in
     (rw c.put_last.ensures.items (activates_ranked r (record { name = n; id = c.args.id; stake = Activator }) refl c.self.invariant.0 none), omega (arith, c.put_last.ensures.len, c.requires.room, ap length c.self.view_is))
