@@ -29,8 +29,8 @@ use Rattle.kd_types.specs.declared.refusal.Refusal.{Refusal}
 use Rattle.kd_wire.specs.declared.command.Command.TheVariants as cmd
 use Rattle.kd_wire.specs.declared.reply.Reply.TheVariants as reply
 use Rattle.kd_acts.specs.State.{Content}
-use Rattle.kd_desk.specs.declared.part.Part as code
-use Rattle.kd_desk.specs.Drafts.{Draft, PlanResult, drafted, parts_with}
+use Rattle.kd_tables.specs.declared.part.Part as code
+use Rattle.kd_tables.specs.Drafts.{Draft, PlanResult, drafted, parts_with}
 use Rattle.kd_commands.specs.declared.who.WhoKind.TheVariants as who
 use Rattle.kd_commands.specs.State.{opening_desk}
 use Rattle.kd_commands.specs.Plans.{Plan, known}
@@ -53,7 +53,7 @@ use Rattle.kd_bus.specs.Values.{stands}
 use Rattle.kd_bus.specs.Begins.{Begins}
 use Rattle.kd_turn.specs.Sight.{GateSight, Sight}
 use Rattle.kd_holds.specs.Handing.{IsMadeFor, Stock}
-use Rattle.kd_desk.specs.declared.part.Part.TheVariants as cp
+use Rattle.kd_tables.specs.declared.part.Part.TheVariants as cp
 use Rattle.kd_bus.specs.Visited.{HasDesk, HasVisit, MadeVisits}
 use Rattle.kd_bus.proofs.Alone.{PassedIt}
 use Rattle.kd_bus.proofs.Left.{leaves_desk}

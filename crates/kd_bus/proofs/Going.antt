@@ -2,15 +2,15 @@
 use Rattle.std.specs.Prelude.{◌≡◌, ◌≢◌, ◌<◌, ◌≤◌, ◌+◌, ℕ, zero, suc, List, [], ◌∷◌, ◌++◌, length, drop, get_or, is_some, true, Option, Some, None, option_map, refl}
 use Rattle.std.proofs.Common.{sym, ap, ◌∙◌, subst, arith, length-append}
 use Rattle.kd_acts.specs.State.{Answer, Batch, Content, bytes_of, done, drained, freed, gone, got, placed, raise, refused, slice}
-use Rattle.kd_desk.specs.Outs.{answers_of, out_answer, why_ended}
+use Rattle.kd_tables.specs.Outs.{answers_of, out_answer, why_ended}
 use Rattle.kd_types.specs.declared.refusal.Refusal.{Refusal}
 use Rattle.kd_hands.specs.declared.views.Part as seen
 use Rattle.kd_hands.specs.Views.{part}
 use Rattle.kd_turn.specs.Sight.{GateSight, Sight}
-use Rattle.kd_desk.specs.declared.part.Part as code
-use Rattle.kd_desk.specs.declared.part.Part.TheVariants as cp
-use Rattle.kd_desk.specs.declared.part.Out.{Out}
-use Rattle.kd_desk.specs.Drafts.{Draft, content_at, part_with, parts_with, seat_in}
+use Rattle.kd_tables.specs.declared.part.Part as code
+use Rattle.kd_tables.specs.declared.part.Part.TheVariants as cp
+use Rattle.kd_tables.specs.declared.part.Out.{Out}
+use Rattle.kd_tables.specs.Drafts.{Draft, content_at, part_with, parts_with, seat_in}
 use Rattle.kd_commands.specs.Plans.{Part}
 use Rattle.kd_commands.specs.Visits.{first_ends, met, next_part, parts_visited, with_images}
 use Rattle.kd_holds.specs.Lists.{first_of}

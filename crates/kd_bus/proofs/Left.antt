@@ -15,12 +15,12 @@ use Rattle.kd_hands.specs.declared.views.View.{View}
 use Rattle.kd_hands.specs.Views.{part, hand}
 use Rattle.kd_hands.specs.Lists.{is_at}
 use Rattle.kd_turn.specs.Sight.{GateSight, Sight}
-use Rattle.kd_desk.specs.declared.part.Part as code
-use Rattle.kd_desk.specs.declared.part.Part.TheVariants as cp
-use Rattle.kd_desk.specs.declared.part.Out.{Out}
-use Rattle.kd_desk.specs.Drafts.{Draft, Fits, IsVisitable, applied, drafted, parts_with}
-use Rattle.kd_desk.specs.Outs.{answers_of, end, ended_on, stops, why_ended}
-use Rattle.kd_desk.proofs.Ending.{ended_alike, ends_where_it_stops}
+use Rattle.kd_tables.specs.declared.part.Part as code
+use Rattle.kd_tables.specs.declared.part.Part.TheVariants as cp
+use Rattle.kd_tables.specs.declared.part.Out.{Out}
+use Rattle.kd_tables.specs.Drafts.{Draft, Fits, IsVisitable, applied, drafted, parts_with}
+use Rattle.kd_tables.specs.Outs.{answers_of, end, ended_on, stops, why_ended}
+use Rattle.kd_tables.proofs.Ending.{ended_alike, ends_where_it_stops}
 use Rattle.kd_commands.specs.State.{Desk}
 use Rattle.kd_commands.specs.Plans.{Part, Plan}
 use Rattle.kd_commands.specs.Step.{Ended, ended as ends_with, ended_by, parts_in}

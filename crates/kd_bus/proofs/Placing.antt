@@ -5,11 +5,11 @@ use Rattle.std.proofs.lemmas.List.{append_assoc, append-nil, drop-drop, drop-set
 use Rattle.kd_model.proofs.Lists.{rest_at}
 use Rattle.kd_acts.specs.State.{Answer, Batch, Content, Image, Visit, by_desk}
 use Rattle.kd_commands.specs.Visits.{images_in, parts_visited, with_images}
-use Rattle.kd_desk.specs.declared.part.Out.{Out}
-use Rattle.kd_desk.specs.declared.part.Out.TheVariants as out
-use Rattle.kd_desk.specs.declared.part.Part as code
-use Rattle.kd_desk.specs.declared.part.Part.TheVariants as part
-use Rattle.kd_desk.specs.Drafts.{Draft, content_at, part_with, parts_with, without_content}
+use Rattle.kd_tables.specs.declared.part.Out.{Out}
+use Rattle.kd_tables.specs.declared.part.Out.TheVariants as out
+use Rattle.kd_tables.specs.declared.part.Part as code
+use Rattle.kd_tables.specs.declared.part.Part.TheVariants as part
+use Rattle.kd_tables.specs.Drafts.{Draft, content_at, part_with, parts_with, without_content}
 use Rattle.kd_world.specs.State.{Pending}
 use Rattle.kd_holds.specs.Placed.{IsSpent, offer_placed}
 use Rattle.kd_holds.specs.Handing.{answer_told, answers_told}

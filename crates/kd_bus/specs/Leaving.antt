@@ -11,9 +11,9 @@ use Rattle.kd_acts.specs.State.{Answer, Content}
 use Rattle.kd_commands.specs.Plans.{Part}
 use Rattle.kd_commands.specs.declared.who.Who.{Who}
 use Rattle.kd_commands.specs.declared.who.WhoKind.{WhoKind}
-use Rattle.kd_desk.specs.declared.part.Out.{Out}
-use Rattle.kd_desk.specs.declared.part.Part as code
-use Rattle.kd_desk.specs.Drafts.{Draft, content_at, empty_content}
+use Rattle.kd_tables.specs.declared.part.Out.{Out}
+use Rattle.kd_tables.specs.declared.part.Part as code
+use Rattle.kd_tables.specs.Drafts.{Draft, content_at, empty_content}
 use Rattle.kd_holds.specs.Placed.{offer_placed}
 use Rattle.kd_world.specs.State.{Pending}
 use Rattle.kd_hands.specs.declared.views.View.{View}

@@ -4,7 +4,7 @@ use Rattle.std.specs.List.{AllByRecursion}
 use Rattle.kd_wire.specs.declared.command.Command.{Command}
 use Rattle.kd_commands.specs.State.{Desk}
 use Rattle.kd_commands.specs.declared.who.Who.{Who}
-use Rattle.kd_desk.specs.Drafts.{Fits, IsVisitable, drafted}
+use Rattle.kd_tables.specs.Drafts.{Fits, IsVisitable, drafted}
 use Rattle.kd_holds.specs.Handing.{IsMadeFor}
 use Rattle.kd_world.specs.Hands.{empty_hand}
 use Rattle.kd_histories.specs.Slots.{planned}

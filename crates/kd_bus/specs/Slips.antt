@@ -2,7 +2,7 @@
 use Rattle.std.specs.Prelude.{ℕ, List, [], slice_index}
 use Rattle.kd_wire.specs.declared.reply.Reply.TheVariants as reply
 use Rattle.kd_acts.specs.State.{by_desk, publish, receive}
-use Rattle.kd_desk.specs.Drafts.{content_at}
+use Rattle.kd_tables.specs.Drafts.{content_at}
 use Rattle.kd_histories.specs.Pools.{marked_numbers}
 use Rattle.kd_pool.specs.Told.{receive_answer}
 use Rattle.kd_holds.specs.Handing.{answer_told, answers_told, visit_met}

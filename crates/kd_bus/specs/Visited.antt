@@ -3,8 +3,8 @@ use Rattle.std.specs.Prelude.{◌≡◌, ◌≢◌, ◌+◌, ◌<◌, ℕ, suc, 
 use mathlib.Core.List.{IsPrefix}
 use Rattle.kd_model.specs.Words.{contains}
 use Rattle.kd_acts.specs.State.{Act, Answer, Content, Visit, by_desk, offer, raise, slice}
-use Rattle.kd_desk.specs.declared.part.Part as code
-use Rattle.kd_desk.specs.Drafts.{seat_in}
+use Rattle.kd_tables.specs.declared.part.Part as code
+use Rattle.kd_tables.specs.Drafts.{seat_in}
 use Rattle.kd_commands.specs.Plans.{Part}
 use Rattle.kd_commands.specs.Visits.{next_part, parts_visited}
 use Rattle.kd_world.specs.State.{Pending}

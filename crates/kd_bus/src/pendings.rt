@@ -1,7 +1,7 @@
 //! What a command placed is pending until its pass publishes it.
 ghost use Rattle.std.specs.Prelude.{◌≡◌, ◌<◌, ◌≤◌, ◌+◌, ◌∷◌, ◌++◌, List, drop, get_or, length, unwrap_or, vec_capacity, vec_len};
-ghost use Rattle.kd_desk.specs.Drafts.{content_at, empty_content, without_content};
-ghost use Rattle.kd_desk.specs.declared.part.Part as code;
+ghost use Rattle.kd_tables.specs.Drafts.{content_at, empty_content, without_content};
+ghost use Rattle.kd_tables.specs.declared.part.Part as code;
 ghost use Rattle.kd_holds.specs.Placed.{IsSpent, offer_placed};
 ghost use Rattle.kd_bus.specs.Leaving.{all_pending, pending_at};
 

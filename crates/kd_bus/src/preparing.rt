@@ -1,6 +1,6 @@
 //! What a command needs before its first visit.
 ghost use Rattle.std.specs.Prelude.{◌≡◌, ◌≢◌, ◌<◌, ◌^◌, ◌&&◌, Err, IfErr, IfOk, IsTrue, not};
-ghost use Rattle.kd_desk.specs.Drafts.{PlanResult};
+ghost use Rattle.kd_tables.specs.Drafts.{PlanResult};
 ghost use Rattle.kd_wire.specs.WellFormed.{is_well_formed};
 ghost use Rattle.kd_holds.specs.Handing.{AreInOrder};
 ghost use Rattle.kd_histories.specs.Slots.{finds_bus, planned, seeks_bus};
@@ -78,7 +78,7 @@ fn plan(
     if is_astray(generation, aim, who, &cmd) {
         return Err(Refusal::NoSuchBus { generation });
     }
-    desk.plan(alloc, who, cmd)
+    kd_desk::plan(desk, alloc, who, cmd)
 }
 
 /// All that a command needs, or why it is refused.

@@ -1,7 +1,7 @@
 //! What an entry of a lock's list says. It is there in the proofs alone, and takes no memory.
 ghost use Rattle.std.specs.Prelude.{◌≡◌, []};
 ghost use Rattle.kd_acts.specs.State.{by_desk, publish, receive};
-ghost use Rattle.kd_desk.specs.Drafts.{content_at};
+ghost use Rattle.kd_tables.specs.Drafts.{content_at};
 ghost use Rattle.kd_pool.specs.Told.{receive_answer};
 ghost use Rattle.kd_holds.specs.Handing.{answer_told, answers_told, visit_met};
 ghost use Rattle.kd_holds.specs.Publishing as publishing;

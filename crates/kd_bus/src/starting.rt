@@ -108,7 +108,7 @@ fn nothing_planned(alloc: Global, desk: &Desk) -> Result<(Plan, Made), AllocErro
         },
         member: WhoKind::Fresh,
     };
-    let Ok(plan) = desk.plan(alloc, &nobody, Command::Close) else {
+    let Ok(plan) = kd_desk::plan(desk, alloc, &nobody, Command::Close) else {
         return Err(AllocError);
     };
     let made = Made::of(alloc, &plan)?;

@@ -3,9 +3,9 @@ ghost use Rattle.std.specs.Prelude.{◌≡◌, ◌≢◌, ◌<◌, ◌≤◌, �
 ghost use Rattle.std.specs.List.{AllByRecursion};
 ghost use Rattle.kd_acts.specs.State.{raise};
 ghost use Rattle.kd_acts.specs.State as state;
-ghost use Rattle.kd_desk.specs.declared.part.Part as code;
-ghost use Rattle.kd_desk.specs.Drafts.{IsVisitable, content_at, part_with, parts_with, seat_in};
-ghost use Rattle.kd_desk.specs.Outs.{why_ended};
+ghost use Rattle.kd_tables.specs.declared.part.Part as code;
+ghost use Rattle.kd_tables.specs.Drafts.{IsVisitable, content_at, part_with, parts_with, seat_in};
+ghost use Rattle.kd_tables.specs.Outs.{why_ended};
 ghost use Rattle.kd_hands.specs.Lists.{is_marked};
 ghost use Rattle.kd_hands.specs.Views.{part};
 ghost use Rattle.kd_holds.specs.Handing.{IsDrainedBy, IsMadeFor, answer_told, answers_told, visit_met};

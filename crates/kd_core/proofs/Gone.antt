@@ -5,8 +5,8 @@ use Rattle.std.proofs.Common.{◌≡◌, refl, sym, ap, ◌∙◌, subst, arith}
 use Rattle.kd_wire.specs.declared.reply.Reply.{Reply}
 use Rattle.kd_model.specs.declared.slice_no.TheConstants.{SLICES}
 use Rattle.kd_acts.specs.State.{Hold}
-use Rattle.kd_desk.specs.Drafts.{Fits}
-use Rattle.kd_desk.specs.Outs.{ended_on}
+use Rattle.kd_tables.specs.Drafts.{Fits}
+use Rattle.kd_tables.specs.Outs.{ended_on}
 use Rattle.kd_commands.specs.State.{Desk}
 use Rattle.kd_commands.specs.Step.{Ended}
 use Rattle.kd_core.specs.declared.event.Answer.TheVariants as answer

@@ -2,7 +2,7 @@
 use Rattle.std.proofs.Common.{◌≡◌, List, [], Option, Some, None, Result, length, drop, refl, ap, ◌∙◌}
 use Rattle.std.specs.Prelude.{option_map}
 use Rattle.kd_types.specs.declared.refusal.Refusal.{Refusal}
-use Rattle.kd_desk.specs.Drafts.{drafted, parts_with, seat_in}
+use Rattle.kd_tables.specs.Drafts.{drafted, parts_with, seat_in}
 use Rattle.kd_acts.specs.State.{Answer, Image}
 use Rattle.kd_commands.specs.Plans.{Plan, Part}
 use Rattle.kd_commands.specs.Visits.{first_ends, met, next_part}

@@ -5,22 +5,22 @@ use Rattle.std.proofs.lemmas.Bool.{true≢false}
 use Rattle.kd_types.specs.declared.creds.Creds.{Creds}
 use Rattle.kd_types.specs.declared.refusal.Refusal.{Refusal}
 use Rattle.kd_acts.specs.State.{Answer, Batch, Content}
-use Rattle.kd_desk.specs.declared.change.Change.{Change}
-use Rattle.kd_desk.specs.declared.change.Change.TheVariants as change
-use Rattle.kd_desk.specs.declared.part.Out.{Out}
-use Rattle.kd_desk.specs.declared.part.Out.TheVariants as out
-use Rattle.kd_desk.specs.declared.part.Part as code
-use Rattle.kd_desk.specs.declared.part.Part.TheVariants as part
+use Rattle.kd_tables.specs.declared.change.Change.{Change}
+use Rattle.kd_tables.specs.declared.change.Change.TheVariants as change
+use Rattle.kd_tables.specs.declared.part.Out.{Out}
+use Rattle.kd_tables.specs.declared.part.Out.TheVariants as out
+use Rattle.kd_tables.specs.declared.part.Part as code
+use Rattle.kd_tables.specs.declared.part.Part.TheVariants as part
 use Rattle.kd_commands.specs.declared.who.Who.{Who}
-use Rattle.kd_desk.specs.Drafts.{Draft, applied, drafted, part_with, parts_with}
+use Rattle.kd_tables.specs.Drafts.{Draft, applied, drafted, part_with, parts_with}
 use Rattle.kd_commands.specs.State.{Desk}
 use Rattle.kd_commands.specs.Plans.{Plan}
 use Rattle.kd_commands.specs.Leaving.{without_conns, without_endpoint}
 use Rattle.kd_commands.specs.Names.{with_claim, without_claim}
 use Rattle.kd_commands.specs.Visits.{first_ends}
 use Rattle.kd_commands.specs.Step.{Ended, ended, ended_by, parts_in}
-use Rattle.kd_desk.specs.Outs.{out_answer, answers_of, end, ended_on, stops}
-use Rattle.kd_desk.proofs.Ending.{ends_where_it_stops}
+use Rattle.kd_tables.specs.Outs.{out_answer, answers_of, end, ended_on, stops}
+use Rattle.kd_tables.proofs.Ending.{ends_where_it_stops}
 use Rattle.kd_holds.specs.declared.holder.Holder as holder
 use Rattle.kd_core.specs.Held.{IsHeld, holder_of}
 use Rattle.kd_world.specs.State.{Pending, Caller, Holder, World, caller_at}

@@ -1,7 +1,7 @@
 -- What a world's parts say of what contracts see.
 use Rattle.std.proofs.Common.{◌≡◌, Option, Some, None, ap, ◌∙◌, subst}
 use Rattle.std.specs.Prelude.{option_map}
-use Rattle.kd_desk.specs.Drafts.{seat_in}
+use Rattle.kd_tables.specs.Drafts.{seat_in}
 use Rattle.kd_commands.specs.Plans.{Part}
 use Rattle.kd_holds.specs.declared.holder.Holder as code
 use Rattle.kd_core.specs.declared.world.World.TheInside.{Inside}

@@ -10,7 +10,7 @@ use Rattle.kd_commands.specs.declared.who.Who.{Who}
 use Rattle.kd_commands.specs.State.{Desk}
 use Rattle.kd_commands.specs.Plans.{Plan}
 use Rattle.kd_commands.specs.Step.{plan}
-use Rattle.kd_desk.specs.Drafts.{Draft, PlanResult, drafted}
+use Rattle.kd_tables.specs.Drafts.{Draft, PlanResult, drafted}
 use Rattle.kd_holds.specs.Handing.{AreInOrder}
 use Rattle.kd_holds.proofs.Orders.{plans_are_in_order}
 use Rattle.kd_world.specs.State.{World, caller_at}

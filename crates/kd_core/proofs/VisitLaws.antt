@@ -9,10 +9,10 @@ use Rattle.kd_types.specs.declared.refusal.Refusal.{Refusal}
 use Rattle.kd_model.specs.declared.slice_no.TheConstants.{SLICES}
 use Rattle.kd_acts.specs.State.{Answer, Batch, Content, Hold, by_desk, done, settle}
 use Rattle.kd_acts.specs.Steps.{pool_step}
-use Rattle.kd_desk.specs.declared.part.Part as code
-use Rattle.kd_desk.specs.declared.part.Part.TheVariants as part
-use Rattle.kd_desk.specs.declared.part.Out.{Out}
-use Rattle.kd_desk.specs.declared.part.Out.TheVariants as out
+use Rattle.kd_tables.specs.declared.part.Part as code
+use Rattle.kd_tables.specs.declared.part.Part.TheVariants as part
+use Rattle.kd_tables.specs.declared.part.Out.{Out}
+use Rattle.kd_tables.specs.declared.part.Out.TheVariants as out
 use Rattle.kd_core.specs.declared.event.Answer.TheVariants as answer
 use Rattle.kd_holds.specs.declared.hold.Hold as hold
 use Rattle.kd_wire.specs.declared.command.Command.{Command}
@@ -21,8 +21,8 @@ use Rattle.kd_commands.specs.State.{Desk}
 use Rattle.kd_commands.specs.Plans.{Plan, Part}
 use Rattle.kd_commands.specs.Visits.{first_ends, met, next_part}
 use Rattle.kd_commands.specs.Step.{parts_in}
-use Rattle.kd_desk.specs.Drafts.{Draft, drafted, part_with, parts_with, seat_in}
-use Rattle.kd_desk.specs.Outs.{out_answer}
+use Rattle.kd_tables.specs.Drafts.{Draft, drafted, part_with, parts_with, seat_in}
+use Rattle.kd_tables.specs.Outs.{out_answer}
 use Rattle.kd_holds.specs.declared.holder.Holder as holder
 use Rattle.kd_core.specs.declared.world.World.TheInside.{Inside}
 use Rattle.kd_holds.specs.Counts.{IsBelow}

@@ -7,12 +7,12 @@ use Rattle.kd_wire.specs.declared.command.Command.{Command}
 use Rattle.kd_acts.specs.State.{Answer, Batch, Hold}
 use Rattle.kd_commands.specs.State.{Desk, opening_desk}
 use Rattle.kd_commands.specs.Plans.{Plan}
-use Rattle.kd_desk.specs.declared.part.Out.{Out}
-use Rattle.kd_desk.specs.declared.part.Part as part
+use Rattle.kd_tables.specs.declared.part.Out.{Out}
+use Rattle.kd_tables.specs.declared.part.Part as part
 use Rattle.kd_commands.specs.declared.who.Who.{Who}
 use Rattle.kd_model.specs.declared.slice_no.TheConstants.{SLICES}
 use Rattle.kd_commands.specs.Step.{plan}
-use Rattle.kd_desk.specs.Drafts.{PlanResult, Draft}
+use Rattle.kd_tables.specs.Drafts.{PlanResult, Draft}
 use Rattle.kd_core.specs.declared.event.Answer.TheVariants as answer
 use Rattle.kd_holds.specs.declared.holder.Holder as code
 use Rattle.kd_core.specs.declared.world.World.TheInside.{Inside}

@@ -4,7 +4,7 @@ use Rattle.kd_types.specs.declared.refusal.Refusal.{Refusal}
 use Rattle.kd_wire.specs.declared.command.Command.{Command}
 use Rattle.kd_commands.specs.declared.who.Who.{Who}
 use Rattle.kd_commands.specs.State.{Desk}
-use Rattle.kd_desk.specs.Drafts.{PlanResult, Draft}
+use Rattle.kd_tables.specs.Drafts.{PlanResult, Draft}
 use Rattle.kd_world.specs.Planner.{planned}
 
 -- the code's plan is that of the world, or its refusal

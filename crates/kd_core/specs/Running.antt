@@ -1,8 +1,8 @@
 -- Events and answers of the code, in the words of the definitions.
 use Rattle.std.specs.Prelude.{ℕ, ◌+◌}
 use Rattle.kd_acts.specs.State as pool
-use Rattle.kd_desk.specs.declared.part.Out.{Out}
-use Rattle.kd_desk.specs.declared.part.Out.TheVariants as out
+use Rattle.kd_tables.specs.declared.part.Out.{Out}
+use Rattle.kd_tables.specs.declared.part.Out.TheVariants as out
 use Rattle.kd_world.specs.State.{World}
 use Rattle.kd_world.specs.Legal.{Event, take, visit, leave, publishes, receives, reads, frees}
 use Rattle.kd_world.specs.Step.{step}

@@ -1,12 +1,12 @@
 -- What the caller is that leaves the desk.
 use Rattle.std.specs.Prelude.{List, Some, None}
-use Rattle.kd_desk.specs.declared.part.Out.{Out}
+use Rattle.kd_tables.specs.declared.part.Out.{Out}
 use Rattle.kd_commands.specs.declared.who.Who.{Who}
 use Rattle.kd_commands.specs.declared.who.WhoKind.{WhoKind}
 use Rattle.kd_commands.specs.State.{Desk}
 use Rattle.kd_commands.specs.Visits.{first_ends}
-use Rattle.kd_desk.specs.Drafts.{Draft, parts_with}
-use Rattle.kd_desk.specs.Outs.{answers_of}
+use Rattle.kd_tables.specs.Drafts.{Draft, parts_with}
+use Rattle.kd_tables.specs.Outs.{answers_of}
 use Rattle.kd_world.specs.State.{Caller}
 use Rattle.kd_world.specs.Callers.{hand_after, kind_after}
 

@@ -1,8 +1,8 @@
 //! The holder leaves the desk.
 
 ghost use Rattle.std.specs.Prelude.{◌≡◌, ◌<◌, ◌≤◌, ◌^◌, ◌++◌, IfOk, IsTrue, None, OnErr, OnOk, Some, length};
-ghost use Rattle.kd_desk.specs.Drafts.{Fits};
-ghost use Rattle.kd_desk.specs.Outs.{ended_on};
+ghost use Rattle.kd_tables.specs.Drafts.{Fits};
+ghost use Rattle.kd_tables.specs.Outs.{ended_on};
 ghost use Rattle.kd_holds.specs.declared.holder.Holder as code;
 ghost use Rattle.kd_holds.specs.Placed.{HasKept, IsSpent, all_kept};
 ghost use Rattle.kd_core.specs.Turned.{becomes, turned};

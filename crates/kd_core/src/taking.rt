@@ -40,7 +40,7 @@ impl World {
         if is_astray(who, &command) {
             return Err(Refusal::NoSuchBus { generation: 0 });
         }
-        self.desk.plan(alloc, who, command)
+        kd_desk::plan(&self.desk, alloc, who, command)
     }
 
     /// The caller takes the desk with a command; nobody holds it. Where the command is refused the

@@ -2,7 +2,7 @@
 
 ghost use Rattle.std.specs.Prelude.{◌≡◌, ◌<◌, ◌-◌, ◌^◌, ◌∷◌, IfOk, IfSome, IsSome, IsTrue, List, OnErr, OnOk, Some, drop, length};
 ghost use Rattle.std.specs.List.{AllByRecursion};
-ghost use Rattle.kd_desk.specs.declared.part.Part as part;
+ghost use Rattle.kd_tables.specs.declared.part.Part as part;
 ghost use Rattle.kd_holds.specs.declared.holder.Holder as code;
 ghost use Rattle.kd_holds.specs.Counts.{IsBelow};
 ghost use Rattle.kd_holds.specs.Visits.{HasVisited, IsReady, IsSameHolder, IsVisited};

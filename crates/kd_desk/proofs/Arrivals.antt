@@ -26,17 +26,17 @@ use Rattle.kd_commands.specs.Hello.{Asked, arrival, endpoint_of, first_owner, fr
 use Rattle.kd_commands.specs.Items.{endpoint_in}
 use Rattle.kd_commands.specs.Plans.{Part, Plan, itself, notices, posted_to, posts}
 use Rattle.kd_commands.specs.Rights.{may_own, may_see_name}
-use Rattle.kd_desk.specs.declared.change.Brought.{Brought}
-use Rattle.kd_desk.specs.declared.change.Brought.TheVariants as brought
-use Rattle.kd_desk.specs.declared.change.Change.TheVariants as change
-use Rattle.kd_desk.specs.declared.part.Part as code
+use Rattle.kd_tables.specs.declared.change.Brought.{Brought}
+use Rattle.kd_tables.specs.declared.change.Brought.TheVariants as brought
+use Rattle.kd_tables.specs.declared.change.Change.TheVariants as change
+use Rattle.kd_tables.specs.declared.part.Part as code
 use Rattle.kd_desk.specs.Arriving.{IsBrought, owned_first, owner_with, refusals_of_newcomer}
-use Rattle.kd_desk.specs.Drafts.{Draft, IsVisitable, StandByOffers, TakesBrought, applied, drafted, parts_with}
+use Rattle.kd_tables.specs.Drafts.{Draft, IsVisitable, StandByOffers, TakesBrought, applied, drafted, parts_with}
 use Rattle.kd_desk.specs.Owners.{moved}
-use Rattle.kd_desk.specs.Room.{IsSeated}
+use Rattle.kd_tables.specs.Room.{IsSeated}
 use Rattle.kd_desk.proofs.Quiet.{all_fail, unless_none, unless_why}
 use Rattle.kd_desk.proofs.Standing.{owner_activated}
-use Rattle.kd_desk.proofs.Visits.{CanBeVisited, contentless, notices_visits, visitable_of}
+use Rattle.kd_tables.proofs.Visits.{CanBeVisited, contentless, notices_visits, visitable_of}
 
 -- ---- its refusals
 

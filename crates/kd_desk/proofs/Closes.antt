@@ -1,12 +1,9 @@
 -- What an endpoint's end comes to.
-use Rattle.std.proofs.Common.{◌≡◌, ◌<◌, ◌+◌, ℕ, Bool, true, false, cond, List, [], ◌∷◌, ◌++◌, length, get_or, map, take, is_some, refl, sym, ap, ◌∙◌}
-use Rattle.std.specs.Prelude.{◌==◌, ◌||◌, ◌&&◌, not, filter, nat_eq, Option}
+use Rattle.std.proofs.Common.{◌≡◌, ◌+◌, ℕ, Bool, true, false, cond, List, [], ◌∷◌, ◌++◌, map, is_some, refl, sym, ap, ◌∙◌}
+use Rattle.std.specs.Prelude.{◌==◌, ◌||◌, not, Option}
 use Rattle.std.specs.List.{AllByRecursion}
 use Rattle.std.proofs.lemmas.Bool.{eq-eqb, eqb-true, or_parts, true≢false}
-use Rattle.std.proofs.lemmas.List.{take_more}
-use Rattle.std.proofs.lemmas.List.Folds.{list_any-append}
-use Rattle.std.proofs.lemmas.List.Sums.{fold-append}
-use Rattle.kd_model.specs.Words.{but_those, contains, in_order, those}
+use Rattle.kd_model.specs.Words.{but_those, in_order, those}
 use Rattle.kd_model.proofs.Lists.{all_follow, all_of_append, all_of_filter}
 use Rattle.kd_types.specs.declared.creds.Level.TheVariants.{See}
 use Rattle.kd_wire.specs.declared.reply.Reply.TheVariants as reply
@@ -16,77 +13,27 @@ use Rattle.kd_policy.specs.declared.owner.Owner.TheVariants as owner
 use Rattle.kd_policy.specs.declared.owner.Scope.TheVariants as scope
 use Rattle.kd_policy.specs.Level.{level_of}
 use Rattle.kd_policy.specs.Policy.{Policy, after_drop, is_held_by, level_in, list_of, part_of}
-use Rattle.kd_endpoint.specs.Labels.{after_remove}
-use Rattle.kd_match.specs.Rules.{without_conn}
-use Rattle.kd_seal.specs.Book as seal
-use Rattle.kd_registry.specs.declared.claim.Claim.{Claim}
 use Rattle.kd_registry.specs.Changes.{changes_without}
 use Rattle.kd_replies.specs.declared.request.Request.{Request}
 use Rattle.kd_replies.specs.Requests.{is_among, is_dead_without}
 use Rattle.kd_acts.specs.State.{Content}
 use Rattle.kd_commands.specs.declared.conn.Conn.{Conn}
 use Rattle.kd_commands.specs.declared.who.WhoKind.TheVariants as who
-use Rattle.kd_commands.specs.State.{Desk, came_before, is_monitor, seat_set}
+use Rattle.kd_commands.specs.State.{Desk, came_before, is_monitor}
 use Rattle.kd_commands.specs.Audience.{Subject, audience, broadcast, id_add, id_remove, is_told, new_owner, reply_dead, reply_timeout, telling}
-use Rattle.kd_commands.specs.Leaving.{close_endpoint, closing, concerns_one, ids_of, leaving_notices, on_endpoint, policy_without, without_conns, without_endpoint}
+use Rattle.kd_commands.specs.Leaving.{close_endpoint, closing, ids_of, leaving_notices, on_endpoint, policy_without, without_conns, without_endpoint}
 use Rattle.kd_commands.specs.Plans.{Part, notices, posted_to, posts}
 use Rattle.kd_commands.specs.Rights.{may_see_name, reaches}
-use Rattle.kd_commands.proofs.Gone.{filter_alike}
-use Rattle.kd_desk.specs.declared.change.Change.{Change}
-use Rattle.kd_desk.specs.declared.part.Part as code
-use Rattle.kd_desk.specs.Closing.{ids_missed, is_missed, is_on, seats_on}
-use Rattle.kd_desk.specs.Drafts.{IsVisitable, StandByOffers, applied, drafted, parts_with}
-use Rattle.kd_desk.specs.News.{without_leavers}
-use Rattle.kd_desk.specs.Room.{IsSeated}
+use Rattle.kd_tables.specs.declared.change.Change.{Change}
+use Rattle.kd_tables.specs.declared.part.Part as code
+use Rattle.kd_desk.specs.Closing.{ids_missed, is_missed}
+use Rattle.kd_tables.specs.Room.{IsSeated, is_on}
+use Rattle.kd_tables.specs.Drafts.{IsVisitable, StandByOffers, applied, drafted, parts_with}
+use Rattle.kd_messages.specs.News.{without_leavers}
 use Rattle.kd_desk.proofs.Leaves.{parted}
-use Rattle.kd_desk.proofs.Marks.{both_filters}
-use Rattle.kd_desk.proofs.Telling.{admits_without, audience_without, chosen_of_rest, level_without_all, told_alike}
-use Rattle.kd_desk.proofs.Visits.{CanBeVisited, contentless, notices_visits, visitable_of}
-
--- ---- connections that leave one after the other
-
-kept_all : {X : Type 0} (xs : List X) → filter (λ x. true) xs ≡ xs
-kept_all [] = refl
-kept_all (x ∷ xs) = ap (x ∷◌) (kept_all xs)
-
--- nobody leaves
-pub without_none : (d : Desk) → without_conns d [] ≡ d
-unfolding without_conns
-without_none d = rw (kept_all d.conns, kept_all d.registry, kept_all d.requests) refl
-
-neither : (a b : Bool) → (not a && not b) ≡ not (a || b)
-neither true b = refl
-neither false b = refl
-
-none_of_four : (a b x y : Bool) → (not (a || b) && not (x || y)) ≡ not ((a || x) || (b || y))
-none_of_four true b x y = refl
-none_of_four false true true y = refl
-none_of_four false true false y = refl
-none_of_four false false x y = refl
-
-but_both : {X : Type 0} (p q both : X → Bool) → ((x : X) → (not (p x) && not (q x)) ≡ not (both x)) → (xs : List X) → but_those q (but_those p xs) ≡ but_those both xs
-but_both p q both h xs = both_filters (λ x. not (q x)) (λ x. not (p x)) xs ∙ filter_alike _ _ h xs
-
-among_more : (ids : List ℕ) (id x : ℕ) → is_among (ids ++ id ∷ []) x ≡ (is_among ids x || is_among (id ∷ []) x)
-among_more ids id x = list_any-append (λ i. i == x) ids (id ∷ [])
-
--- one more leaves
-without_more : (d : Desk) (ids : List ℕ) (id : ℕ) → without_conns (without_conns d ids) (id ∷ []) ≡ without_conns d (ids ++ id ∷ [])
-unfolding without_conns
-without_more d ids id =
-    let more : List ℕ = ids ++ id ∷ [] in
-    let conns : but_those (λ (c : Conn). is_among (id ∷ []) c.id) (but_those (λ (c : Conn). is_among ids c.id) d.conns) ≡ but_those (λ (c : Conn). is_among more c.id) d.conns =
-    but_both _ _ _ (λ c. neither (is_among ids c.id) (is_among (id ∷ []) c.id) ∙ ap not (sym (among_more ids id c.id))) d.conns in
-    let claims : but_those (λ (c : Claim). contains c.id (id ∷ [])) (but_those (λ (c : Claim). contains c.id ids) d.registry) ≡ but_those (λ (c : Claim). contains c.id more) d.registry =
-    but_both _ _ _ (λ c. neither (contains c.id ids) (contains c.id (id ∷ [])) ∙ ap not (sym (list_any-append (nat_eq c.id) ids (id ∷ [])))) d.registry in
-    let requests : but_those (concerns_one (id ∷ [])) (but_those (concerns_one ids) d.requests) ≡ but_those (concerns_one more) d.requests =
-    but_both _ _ _ (λ (q : Request). none_of_four (is_among ids q.asker) (is_among ids q.replier) (is_among (id ∷ []) q.asker) (is_among (id ∷ []) q.replier)
-    ∙ sym (ap not (ap (λ b. b || is_among more q.replier) (among_more ids id q.asker) ∙ ap (λ b. (is_among ids q.asker || is_among (id ∷ []) q.asker) || b) (among_more ids id q.replier)))) d.requests in
-    rw (conns, claims, requests, fold-append (λ q i. after_drop q (owner.Conn i)) d.policy ids (id ∷ []), fold-append without_conn d.rules ids (id ∷ []), fold-append seal.seals_without_conn d.seals ids (id ∷ [])) refl
-
-pub without_one_more : (d : Desk) (ids : List ℕ) (i id : ℕ) → i < length ids → id ≡ get_or ids i id → without_conns (without_conns d (take i ids)) (id ∷ []) ≡ without_conns d (take (i + 1) ids)
-without_one_more d ids i id low is =
-    without_more d (take i ids) id ∙ ap (λ x. without_conns d (take i ids ++ x ∷ [])) is ∙ sym (ap (without_conns d) (take_more ids i id low))
+use Rattle.kd_tables.proofs.Marks.{both_filters}
+use Rattle.kd_messages.proofs.Telling.{admits_without, audience_without, chosen_of_rest, level_without_all, told_alike}
+use Rattle.kd_tables.proofs.Visits.{CanBeVisited, contentless, notices_visits, visitable_of}
 
 -- ---- whom the end of an endpoint is told
 
@@ -183,20 +130,6 @@ closing_told d after e ps =
     let ids : List ℕ = ids_of (on_endpoint d e) in
     ap (λ ss. ps ++ notices after (owners_gone d ids ++ repliers_gone d ids ++ ss)) (missed_are d e)
     ∙ parted after ps (owners_gone d ids) (repliers_gone d ids) (map id_remove (ids_missed d e))
-
--- ---- the desk then
-
--- with the seats blocked of those that came by it
-abbrev pub with_seats : Desk → ℕ → Desk
-with_seats d e = record d { blocked = seat_set (d.blocked ++ seats_on d.conns e) }
-
--- and without it and its entries
-abbrev pub but_endpoint : Desk → ℕ → Desk
-but_endpoint d e = record d { endpoints = after_remove d.endpoints e; policy = after_drop d.policy (owner.Endpoint e) }
-
-pub ended : (d : Desk) (e : ℕ) → but_endpoint (without_conns (with_seats d e) (ids_of (on_endpoint d e))) e ≡ without_endpoint d e
-unfolding without_endpoint without_conns
-ended d e = refl
 
 -- ---- the plan
 

@@ -9,9 +9,9 @@ use Rattle.kd_commands.specs.State.{Desk}
 use Rattle.kd_commands.specs.Audience.{Subject, audience, is_shown, reply_timeout}
 use Rattle.kd_commands.specs.Plans.{itself, notices, posts}
 use Rattle.kd_commands.specs.Tick.{tick}
-use Rattle.kd_desk.specs.declared.change.Change.TheVariants as change
-use Rattle.kd_desk.specs.declared.part.Part as code
-use Rattle.kd_desk.specs.Drafts.{applied, drafted, parts_with}
+use Rattle.kd_tables.specs.declared.change.Change.TheVariants as change
+use Rattle.kd_tables.specs.declared.part.Part as code
+use Rattle.kd_tables.specs.Drafts.{applied, drafted, parts_with}
 
 abbrev pub late : Request → Subject
 late q = reply_timeout q.asker q.cookie

@@ -17,12 +17,12 @@ use Rattle.kd_commands.specs.declared.conn.Conn.{Conn}
 use Rattle.kd_commands.specs.State.{Desk, conn_of, has_id, is_monitor, came_before}
 use Rattle.kd_commands.specs.Audience.{Subject, id_remove, new_owner, reply_dead}
 use Rattle.kd_commands.specs.Leaving.{closing, leave_one, leaving_notices, without_conns}
-use Rattle.kd_desk.specs.declared.change.Change.TheVariants as change
-use Rattle.kd_desk.specs.declared.part.Part as code
+use Rattle.kd_tables.specs.declared.change.Change.TheVariants as change
+use Rattle.kd_tables.specs.declared.part.Part as code
 use Rattle.kd_commands.specs.declared.who.WhoKind.TheVariants as who
-use Rattle.kd_desk.specs.Drafts.{IsVisitable, StandByOffers, applied, drafted, parts_with}
-use Rattle.kd_desk.specs.Room.{IsSeated}
-use Rattle.kd_desk.proofs.Visits.{CanBeVisited, contentless, notices_visits, visitable_of}
+use Rattle.kd_tables.specs.Drafts.{IsVisitable, StandByOffers, applied, drafted, parts_with}
+use Rattle.kd_tables.specs.Room.{IsSeated}
+use Rattle.kd_tables.proofs.Visits.{CanBeVisited, contentless, notices_visits, visitable_of}
 use Rattle.kd_commands.specs.Plans.{notices, posts, Part}
 
 abbrev pub owners_gone : Desk → ℕ → List Subject

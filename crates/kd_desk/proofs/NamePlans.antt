@@ -13,14 +13,14 @@ use Rattle.kd_registry.specs.Claims.{asked, owner_id, ranks, release_answer, rel
 use Rattle.kd_replies.specs.declared.request.Request.{Request}
 use Rattle.kd_commands.specs.declared.conn.Conn.{Conn}
 use Rattle.kd_commands.specs.declared.who.WhoKind.TheVariants as who
-use Rattle.kd_desk.specs.declared.part.Part as code
-use Rattle.kd_desk.specs.declared.change.Change.TheVariants as change
+use Rattle.kd_tables.specs.declared.part.Part as code
+use Rattle.kd_tables.specs.declared.change.Change.TheVariants as change
 use Rattle.kd_commands.specs.State.{Desk}
 use Rattle.kd_commands.specs.Rights.{may_see_name}
 use Rattle.kd_commands.specs.Audience.{audience, is_shown, new_owner, owner_change}
 use Rattle.kd_commands.specs.Plans.{Part, Plan, itself, notices, posts, announced}
 use Rattle.kd_commands.specs.Names.{activator_in, is_queued, handover, with_claim, acquire_plan, acquire_refusals, name_acquire, has_claim, without_claim, release_refusals, name_release}
-use Rattle.kd_desk.specs.Drafts.{Draft, Fits, parts_with, applied, drafted}
+use Rattle.kd_tables.specs.Drafts.{Draft, Fits, parts_with, applied, drafted}
 use Rattle.kd_desk.specs.Owners.{moved, owner_by, acquire_judged, hidden, release_judged}
 use Rattle.kd_desk.proofs.Owning.{owned_by_some, owner_acquired}
 

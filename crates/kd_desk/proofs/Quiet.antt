@@ -1,5 +1,5 @@
 -- Plans that visit nobody.
-use Rattle.std.specs.Prelude.{◌≡◌, Bool, true, false, List, [], ◌∷◌, Option, Some, None, Result, Ok, Err, OnOk, refl}
+use Rattle.std.specs.Prelude.{◌≡◌, Bool, true, false, List, [], ◌∷◌, Option, Some, None, Result, Ok, Err, refl}
 use Rattle.std.proofs.Common.{ap, sym, ◌∙◌}
 use Rattle.std.specs.List.{AllByRecursion}
 use Rattle.kd_model.specs.Words.{first_that_holds}
@@ -10,9 +10,9 @@ use Rattle.kd_commands.specs.declared.conn.Conn.{Conn}
 use Rattle.kd_commands.specs.declared.who.WhoKind.{WhoKind}
 use Rattle.kd_commands.specs.State.{Desk}
 use Rattle.kd_commands.specs.Plans.{Plan, itself, quiet, unless}
-use Rattle.kd_desk.specs.declared.change.Change.{Change}
-use Rattle.kd_desk.specs.Drafts.{Fits, PlanResult, applied, drafted, quiet_draft}
-use Rattle.kd_desk.proofs.Visits.{nothing_offered}
+use Rattle.kd_tables.specs.declared.change.Change.{Change}
+use Rattle.kd_tables.specs.Drafts.{Fits, PlanResult, applied, drafted, quiet_draft}
+use Rattle.kd_tables.proofs.Visits.{nothing_offered}
 
 -- the plan of a change that fits, and of no visit
 pub quiet_planned : (d : Desk) (c : Conn) (r : Reply) (x : Change) (wanted : Result Plan Refusal) → Fits d x → wanted ≡ Ok (quiet c r (applied x d)) → PlanResult d wanted (Ok (quiet_draft r x (itself c)))
@@ -35,11 +35,6 @@ by_answer (Err r) p x e = absurd cc
 pub by_refusal : {X : Type 0} (o : Result X Refusal) (p : Plan) (why : Refusal) → Err why ≡ o → answered o p ≡ Err why
 by_refusal (Ok y) p why e = absurd cc
 by_refusal (Err r) p why e = let is : why ≡ r = cc in ap Err (sym is)
-
--- what holds of a call that succeeded
-pub when_ok : {X P : Type 0} (r : Result X Refusal) (x : X) → r ≡ Ok x → OnOk r P → P
-when_ok (Ok y) x e f = f
-when_ok (Err why) x e f = absurd cc
 
 -- or by the refusal that it has
 pub not_refused : (o : Option Refusal) → Ok tt ≡ result_of o → o ≡ None

@@ -5,7 +5,7 @@ use Rattle.kd_types.specs.declared.refusal.Refusal.{Refusal}
 use Rattle.kd_types.specs.declared.refusal.Refusal.TheVariants as why
 use Rattle.kd_commands.specs.State.{Desk}
 use Rattle.kd_commands.specs.Plans.{Plan}
-use Rattle.kd_desk.specs.Drafts.{PlanResult, Draft}
+use Rattle.kd_tables.specs.Drafts.{PlanResult, Draft}
 
 pub refused_so : (d : Desk) (w : Result Plan Refusal) (e : Refusal) → w ≡ Err e → PlanResult d w (Err e)
 refused_so d w why.OutOfMemory h = tt

@@ -23,8 +23,8 @@ use Rattle.kd_commands.specs.Items.{condition_of, conditions_in, is_bad_mask}
 use Rattle.kd_commands.specs.Matches.{match_add, match_refusals, match_remove, with_rule_of}
 use Rattle.kd_commands.specs.Seals.{unseal}
 use Rattle.kd_commands.specs.Plans.{Plan, quiet, unless_refused}
-use Rattle.kd_desk.specs.declared.change.Change.TheVariants as change
-use Rattle.kd_desk.specs.Drafts.{Fits, applied}
+use Rattle.kd_tables.specs.declared.change.Change.TheVariants as change
+use Rattle.kd_tables.specs.Drafts.{Fits, applied}
 use Rattle.kd_desk.proofs.Quiet.{by_answer, by_refusal, refused_by}
 use Rattle.kd_said.specs.Said.{misnamed}
 

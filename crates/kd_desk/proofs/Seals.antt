@@ -10,8 +10,8 @@ use Rattle.kd_commands.specs.declared.conn.Conn.{Conn}
 use Rattle.kd_commands.specs.State.{Desk}
 use Rattle.kd_commands.specs.Seals.{seal}
 use Rattle.kd_commands.specs.Plans.{Plan, quiet}
-use Rattle.kd_desk.specs.declared.change.Change.TheVariants as change
-use Rattle.kd_desk.specs.Drafts.{Fits, applied}
+use Rattle.kd_tables.specs.declared.change.Change.TheVariants as change
+use Rattle.kd_tables.specs.Drafts.{Fits, applied}
 
 -- by the number that is given, or the refusal
 abbrev given : Result ℕ Refusal → (ℕ → Plan) → Result Plan Refusal

@@ -16,8 +16,8 @@ use Rattle.kd_commands.specs.Items.{activator_name, entries_in}
 use Rattle.kd_commands.specs.State.{Desk, is_monitor}
 use Rattle.kd_commands.specs.Audience.{Subject}
 use Rattle.kd_commands.specs.Rights.{is_privileged, may_own}
-use Rattle.kd_desk.specs.declared.change.Brought.{Brought}
-use Rattle.kd_desk.specs.declared.change.Brought.TheVariants as brought
+use Rattle.kd_tables.specs.declared.change.Brought.{Brought}
+use Rattle.kd_tables.specs.declared.change.Brought.TheVariants as brought
 use Rattle.kd_desk.specs.declared.hello.Wanted.{Wanted}
 use Rattle.kd_desk.specs.Owners.{moved}
 

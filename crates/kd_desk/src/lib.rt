@@ -1,4 +1,4 @@
-//! The desk of a bus: who may ask what, whom a message reaches, and what a command comes to.
+//! The desk of a bus: who may ask what, and what a command comes to.
 //!
 //! A command is planned under the desk's lock, its parts are visited in the receivers' pools, and
 //! then it is finished:
@@ -10,40 +10,24 @@
 //! ```
 //!
 //! What a plan is stands in `kd_commands`, command by command. A planner is a file of its own:
-//! `hello`, `endpoints`, `granting`, `sending`, `leaving`, `closing`, `naming`, `listing`,
-//! `matching`, `sealing`, `ticking`; `planning` says who may give what, and `finishing` makes the
-//! change of a plan. A message is judged by `sending`, `sharing` and `routing`, and its offers are
-//! made by `offers` and `broadcasting`. What items say is read by `kd_said`.
+//! `hello`, `endpoints`, `granting`, `leaving`, `closing`, `naming`, `listing`, `matching`,
+//! `sealing`, `ticking`; that of messages is in `kd_messages`. `planning` says who may give what.
+//! The desk itself, and how a plan changes it, is in `kd_tables`. What items say is read by
+//! `kd_said`.
 #![tactic(auto)]
 
-mod attaching;
-mod broadcasting;
-mod change;
 mod closing;
-mod content;
-mod desk;
 mod endpoints;
-mod finishing;
 mod granting;
 mod hello;
 mod leaving;
 mod listing;
 mod matching;
 mod naming;
-mod notices;
-mod offers;
-mod part;
-mod plan;
 mod planning;
-mod rights;
-mod routing;
 mod sealing;
-mod sending;
-mod sharing;
 mod ticking;
 
-pub use content::Content;
-pub use desk::{Desk, SEATS};
 pub use kd_commands::{Conn, Who, WhoKind};
-pub use part::{Out, Part};
-pub use plan::Plan;
+pub use kd_tables::{Content, Desk, Out, Part, Plan, SEATS};
+pub use planning::plan;

@@ -6,10 +6,10 @@ use Rattle.kd_commands.specs.Step.{ended_by}
 use Rattle.kd_commands.specs.Visits.{first_ends}
 use Rattle.kd_settled.specs.Settled.{IsSettled}
 use Rattle.kd_settled.proofs.Always.{settled_stays}
-use Rattle.kd_desk.specs.Drafts.{drafted}
-use Rattle.kd_desk.specs.Outs.{answers_of, end, ended_on}
+use Rattle.kd_tables.specs.Drafts.{drafted}
+use Rattle.kd_tables.specs.Outs.{answers_of, end, ended_on}
 use Rattle.kd_finishing.specs.Steps.{FinishedAreSettled, FinishingIsTheStep}
-use Rattle.kd_desk.proofs.Ending.{ended_alike}
+use Rattle.kd_tables.proofs.Ending.{ended_alike}
 
 pub finishing_is_the_step : FinishingIsTheStep
 finishing_is_the_step d w x p outs e =

@@ -7,9 +7,9 @@ use Rattle.kd_commands.specs.State.{Desk}
 use Rattle.kd_commands.specs.Step.{Ended, ended_by, plan}
 use Rattle.kd_settled.specs.Room.{IsAtHome}
 use Rattle.kd_settled.specs.Settled.{IsSettled}
-use Rattle.kd_desk.specs.declared.part.Out.{Out}
-use Rattle.kd_desk.specs.Drafts.{Draft, drafted}
-use Rattle.kd_desk.specs.Outs.{answers_of, ended_on}
+use Rattle.kd_tables.specs.declared.part.Out.{Out}
+use Rattle.kd_tables.specs.Drafts.{Draft, drafted}
+use Rattle.kd_tables.specs.Outs.{answers_of, ended_on}
 
 -- the step of a command, by what the pools answered to its visits
 abbrev pub step : Desk → Who → Command → List Out → Ended

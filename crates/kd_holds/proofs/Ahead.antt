@@ -2,9 +2,9 @@
 use Rattle.std.proofs.Common.{◌≡◌, ℕ, List, [], ◌∷◌, Option, Some, None, drop, zero, suc, refl, ap}
 use Rattle.std.specs.Prelude.{option_map}
 use Rattle.kd_acts.specs.State.{Content}
-use Rattle.kd_desk.specs.declared.part.Part as code
-use Rattle.kd_desk.specs.declared.part.Part.TheVariants as part
-use Rattle.kd_desk.specs.Drafts.{part_with, parts_with, seat_in}
+use Rattle.kd_tables.specs.declared.part.Part as code
+use Rattle.kd_tables.specs.declared.part.Part.TheVariants as part
+use Rattle.kd_tables.specs.Drafts.{part_with, parts_with, seat_in}
 use Rattle.kd_commands.specs.Plans.{Part}
 use Rattle.kd_holds.specs.Lists.{first_of}
 

@@ -4,7 +4,7 @@ use Rattle.std.specs.List.{AllByRecursion}
 use Rattle.kd_model.specs.declared.slice_no.TheConstants.{SLICES}
 use Rattle.kd_acts.specs.State.{Act, Batch, Content, Hold, by_desk}
 use Rattle.kd_acts.specs.Steps.{after}
-use Rattle.kd_desk.specs.declared.part.Part as code
+use Rattle.kd_tables.specs.declared.part.Part as code
 use Rattle.kd_holds.specs.Counts.{IsBelow, is_settle}
 use Rattle.kd_holds.specs.Handing.{images_of, visit_met}
 use Rattle.kd_world.specs.State.{closed_pool}

@@ -12,7 +12,7 @@ use Rattle.kd_acts.specs.declared.slot.Phase.TheVariants as phase
 use Rattle.kd_acts.specs.declared.slot.Slot.{Slot}
 use Rattle.kd_acts.specs.State.{Act, Answer, Content, Hold, Image, Pool, Visit, book_of, by_desk, bytes_of, close, done, drain, drained, free, freed, gone, got, idle, is_reserved, is_waiting, offer, placed, post, publish, raise, read, receive, refused, settle, slice, slots}
 use Rattle.kd_acts.specs.Steps.{after, after_miss, after_taking, closed_answer, drop_counted, drain_step, fill_reserved, fill_step, filled, free_refusal, is_awaited, is_reserved_for, must_offer_step, next, of_lower_number, offer_step, open_step, over_quota, pool_step, post_step, receive_step, reserve_at, reserve_step, settled, swept, visit_step, waiting_images, with_dropped, with_phase, pool_without, without_handed, without_waiting}
-use Rattle.kd_desk.specs.declared.part.Part.TheVariants as part
+use Rattle.kd_tables.specs.declared.part.Part.TheVariants as part
 use Rattle.kd_model.specs.declared.slice_no.TheConstants.{SLICES}
 use Rattle.kd_holds.specs.Counts.{CountsByOne, IsBelow, IsOpenBelow, IsPoolBelow, VisitsCount, is_settle}
 use Rattle.kd_holds.specs.Handing.{images_of}

@@ -4,10 +4,10 @@ use Rattle.std.proofs.Common.{ap, sym, ◌∙◌, arith}
 use Rattle.std.proofs.lemmas.List.{append_assoc, append-nil, drop-drop, drop-set-lt, drop_all, drop_more}
 use Rattle.kd_model.proofs.Lists.{rest_at}
 use Rattle.kd_acts.specs.State.{Content, Hold}
-use Rattle.kd_desk.specs.declared.part.Out.{Out}
-use Rattle.kd_desk.specs.declared.part.Part as code
-use Rattle.kd_desk.specs.declared.part.Part.TheVariants as part
-use Rattle.kd_desk.specs.Drafts.{Draft, content_at, without_content}
+use Rattle.kd_tables.specs.declared.part.Out.{Out}
+use Rattle.kd_tables.specs.declared.part.Part as code
+use Rattle.kd_tables.specs.declared.part.Part.TheVariants as part
+use Rattle.kd_tables.specs.Drafts.{Draft, content_at, without_content}
 use Rattle.kd_world.specs.State.{Pending}
 use Rattle.kd_holds.specs.Placed.{IsSpent, all_kept, pending_kept, offer_placed}
 

@@ -4,9 +4,9 @@ use Rattle.std.specs.List.{AllByRecursion}
 use Rattle.std.proofs.Common.{ap, inl, inr, subst, sym}
 use Rattle.kd_acts.specs.State.{Content, drain, settle}
 use Rattle.kd_commands.specs.Plans.{Part}
-use Rattle.kd_desk.specs.declared.part.Part as code
-use Rattle.kd_desk.specs.declared.part.Part.TheVariants as part
-use Rattle.kd_desk.specs.Drafts.{part_with, parts_with}
+use Rattle.kd_tables.specs.declared.part.Part as code
+use Rattle.kd_tables.specs.declared.part.Part.TheVariants as part
+use Rattle.kd_tables.specs.Drafts.{part_with, parts_with}
 use Rattle.kd_handovers.specs.Handovers as planned
 use Rattle.kd_handovers.specs.Openings as planned_small
 use Rattle.kd_handovers.proofs.First.{handovers_come_first}

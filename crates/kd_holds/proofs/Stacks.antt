@@ -5,9 +5,9 @@ use Rattle.std.proofs.Common.{ap, sym, ◌∙◌}
 use Rattle.std.proofs.lemmas.List.{append-nil, reverse-append}
 use Rattle.kd_model.proofs.Lists.{rest_at}
 use Rattle.kd_acts.specs.State.{Pool}
-use Rattle.kd_desk.specs.declared.part.Part.{Part}
-use Rattle.kd_desk.specs.declared.part.Part.TheVariants as part
-use Rattle.kd_desk.specs.Drafts.{IsVisitable}
+use Rattle.kd_tables.specs.declared.part.Part.{Part}
+use Rattle.kd_tables.specs.declared.part.Part.TheVariants as part
+use Rattle.kd_tables.specs.Drafts.{IsVisitable}
 use Rattle.kd_pool.specs.declared.memory.TheConstants.{LARGEST}
 use Rattle.kd_holds.specs.Handing.{IsSmall}
 use Rattle.kd_holds.specs.Stack.{pool_in, stack_of}

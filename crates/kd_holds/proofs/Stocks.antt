@@ -6,10 +6,10 @@ use Rattle.kd_types.specs.declared.refusal.Refusal.{Refusal}
 use Rattle.kd_model.specs.declared.slice_no.TheConstants.{SLICES}
 use Rattle.kd_acts.specs.State.{Batch, Image, Pool}
 use Rattle.kd_acts.specs.Steps.{new_pool}
-use Rattle.kd_desk.specs.declared.part.Part as code
-use Rattle.kd_desk.specs.declared.part.Part.TheVariants as part
-use Rattle.kd_desk.specs.declared.part.Out.{Out}
-use Rattle.kd_desk.specs.declared.part.Out.TheVariants as out
+use Rattle.kd_tables.specs.declared.part.Part as code
+use Rattle.kd_tables.specs.declared.part.Part.TheVariants as part
+use Rattle.kd_tables.specs.declared.part.Out.{Out}
+use Rattle.kd_tables.specs.declared.part.Out.TheVariants as out
 use Rattle.kd_holds.specs.Handing.{AreStill, HandsOver, HasBuffer, HasDrained, IsBuffer, IsMadeFor, SettlesFirst, Stock, images_of}
 use Rattle.kd_holds.specs.Stack.{stack_of}
 

@@ -6,12 +6,12 @@ use Rattle.std.proofs.lemmas.List.{append-nil, append_assoc}
 use Rattle.kd_acts.specs.State.{Answer, Batch, Content, Image}
 use Rattle.kd_commands.specs.Plans.{Part}
 use Rattle.kd_commands.specs.Visits.{first_ends, images_in, met, next_part}
-use Rattle.kd_desk.specs.declared.part.Part as code
-use Rattle.kd_desk.specs.declared.part.Part.TheVariants as part
-use Rattle.kd_desk.specs.declared.part.Out.{Out}
-use Rattle.kd_desk.specs.declared.part.Out.TheVariants as out
-use Rattle.kd_desk.specs.Drafts.{part_with, parts_with}
-use Rattle.kd_desk.specs.Outs.{answers_of, out_answer}
+use Rattle.kd_tables.specs.declared.part.Part as code
+use Rattle.kd_tables.specs.declared.part.Part.TheVariants as part
+use Rattle.kd_tables.specs.declared.part.Out.{Out}
+use Rattle.kd_tables.specs.declared.part.Out.TheVariants as out
+use Rattle.kd_tables.specs.Drafts.{part_with, parts_with}
+use Rattle.kd_tables.specs.Outs.{answers_of, out_answer}
 use Rattle.kd_holds.specs.Handing.{AreStill, HandsOver, IsDrainedBy, SettlesFirst, TellDrained, answer_told, answers_told, drain_told, images_of, images_told, is_still}
 use Rattle.kd_holds.specs.Lists.{first_of}
 

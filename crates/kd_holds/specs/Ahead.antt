@@ -1,9 +1,9 @@
 -- What a plan visits next.
 use Rattle.std.specs.Prelude.{List, length, drop, Option, Some, None}
-use Rattle.kd_desk.specs.declared.part.Out.{Out}
-use Rattle.kd_desk.specs.declared.part.Part as code
-use Rattle.kd_desk.specs.Drafts.{Draft, parts_with}
-use Rattle.kd_desk.specs.Outs.{answers_of}
+use Rattle.kd_tables.specs.declared.part.Out.{Out}
+use Rattle.kd_tables.specs.declared.part.Part as code
+use Rattle.kd_tables.specs.Drafts.{Draft, parts_with}
+use Rattle.kd_tables.specs.Outs.{answers_of}
 use Rattle.kd_commands.specs.Visits.{first_ends}
 use Rattle.kd_holds.specs.Lists.{first_of}
 

@@ -3,7 +3,7 @@ use Rattle.std.specs.Prelude.{◌≤◌, ◌+◌, ◌≡◌, ℕ, Bool, true, fa
 use Rattle.kd_model.specs.declared.slice_no.TheConstants.{SLICES}
 use Rattle.kd_acts.specs.State.{Act, Batch, Content, Hold, Pool, by_desk, settle}
 use Rattle.kd_acts.specs.Steps.{after}
-use Rattle.kd_desk.specs.declared.part.Part as code
+use Rattle.kd_tables.specs.declared.part.Part as code
 use Rattle.kd_holds.specs.Handing.{images_of, visit_met}
 
 -- the counts of an open pool are at most so many

@@ -11,12 +11,12 @@ use Rattle.kd_commands.specs.State.{Desk}
 use Rattle.kd_commands.specs.Plans.{Plan}
 use Rattle.kd_commands.specs.Step.{plan}
 use Rattle.kd_commands.specs.Visits.{images_in, with_images}
-use Rattle.kd_desk.specs.declared.part.Part as code
-use Rattle.kd_desk.specs.declared.part.Part.TheVariants as part
-use Rattle.kd_desk.specs.declared.part.Out.{Out}
-use Rattle.kd_desk.specs.declared.part.Out.TheVariants as out
-use Rattle.kd_desk.specs.Drafts.{part_with, parts_with}
-use Rattle.kd_desk.specs.Outs.{out_answer}
+use Rattle.kd_tables.specs.declared.part.Part as code
+use Rattle.kd_tables.specs.declared.part.Part.TheVariants as part
+use Rattle.kd_tables.specs.declared.part.Out.{Out}
+use Rattle.kd_tables.specs.declared.part.Out.TheVariants as out
+use Rattle.kd_tables.specs.Drafts.{part_with, parts_with}
+use Rattle.kd_tables.specs.Outs.{out_answer}
 use Rattle.kd_holds.specs.Stack.{stack_of}
 
 -- ---- the parts

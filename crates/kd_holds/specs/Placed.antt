@@ -1,11 +1,11 @@
 -- What a holder leaves behind, by its plan and the answers to its visits.
 use Rattle.std.specs.Prelude.{◌≡◌, ◌++◌, ℕ, List, [], ◌∷◌, drop, Option, Some, None, get_or, unwrap_or}
 use Rattle.kd_acts.specs.State.{Content, Hold}
-use Rattle.kd_desk.specs.declared.part.Part as code
-use Rattle.kd_desk.specs.declared.part.Part.TheVariants as part
-use Rattle.kd_desk.specs.declared.part.Out.{Out}
-use Rattle.kd_desk.specs.declared.part.Out.TheVariants as out
-use Rattle.kd_desk.specs.Drafts.{Draft, content_at, empty_content}
+use Rattle.kd_tables.specs.declared.part.Part as code
+use Rattle.kd_tables.specs.declared.part.Part.TheVariants as part
+use Rattle.kd_tables.specs.declared.part.Out.{Out}
+use Rattle.kd_tables.specs.declared.part.Out.TheVariants as out
+use Rattle.kd_tables.specs.Drafts.{Draft, content_at, empty_content}
 use Rattle.kd_holds.specs.declared.holder.Holder as holder
 use Rattle.kd_world.specs.State.{Pending, closed_pool}
 

@@ -2,8 +2,8 @@
 use Rattle.std.specs.Prelude.{List, [], ◌∷◌, ◌++◌}
 use Rattle.kd_acts.specs.State.{Pool}
 use Rattle.kd_acts.specs.Steps.{new_pool}
-use Rattle.kd_desk.specs.declared.part.Part.{Part}
-use Rattle.kd_desk.specs.declared.part.Part.TheVariants as part
+use Rattle.kd_tables.specs.declared.part.Part.{Part}
+use Rattle.kd_tables.specs.declared.part.Part.TheVariants as part
 
 -- what a part opens
 abbrev pub pool_in : Part → List Pool

@@ -3,9 +3,9 @@ use Rattle.std.specs.Prelude.{◌≡◌, ◌<◌, ◌+◌, ◌++◌, [], ◌∷�
 use Rattle.std.specs.List.{AllByRecursion}
 use Rattle.kd_acts.specs.State.{Batch, Content, Hold, by_desk}
 use Rattle.kd_acts.specs.Steps.{after, answer}
-use Rattle.kd_desk.specs.declared.part.Part as code
-use Rattle.kd_desk.specs.declared.part.Out.{Out}
-use Rattle.kd_desk.specs.Drafts.{IsVisitable, seat_in}
+use Rattle.kd_tables.specs.declared.part.Part as code
+use Rattle.kd_tables.specs.declared.part.Out.{Out}
+use Rattle.kd_tables.specs.Drafts.{IsVisitable, seat_in}
 use Rattle.kd_holds.specs.declared.holder.Holder as holder
 use Rattle.kd_holds.specs.Handing.{IsDrainedBy, IsMadeFor, answer_told, visit_met}
 use Rattle.kd_world.specs.State.{closed_pool}

@@ -6,9 +6,9 @@ ghost use Rattle.kd_acts.specs.Lasting.{is_handed_in};
 ghost use Rattle.kd_acts.specs.Steps.{after, answer, is_awaited, new_pool};
 ghost use Rattle.kd_acts.specs.State as state;
 ghost use Rattle.kd_pool.specs.Told.{receive_answer};
-ghost use Rattle.kd_desk.specs.Drafts.{IsLength, IsVisitable};
-ghost use Rattle.kd_desk.specs.Outs.{out_answer};
-ghost use Rattle.kd_desk.specs.declared.part.Part as code;
+ghost use Rattle.kd_tables.specs.Drafts.{IsLength, IsVisitable};
+ghost use Rattle.kd_tables.specs.Outs.{out_answer};
+ghost use Rattle.kd_tables.specs.declared.part.Part as code;
 ghost use Rattle.kd_holds.specs.Counts.{IsBelow};
 ghost use Rattle.kd_world.specs.Hands.{hand_received};
 ghost use Rattle.kd_world.specs.State.{closed_pool};
@@ -72,7 +72,7 @@ impl Hold {
     }
 
     /// Does what a part of a plan asks for: a settle places what was drained.
-    #[tactic(auto, unfolding(kd_desk::specs::Drafts::IsVisitable))]
+    #[tactic(auto, unfolding(kd_tables::specs::Drafts::IsVisitable))]
     pub fn visit(&mut self, part: &Part, made: &mut Made) -> Out
         requires visitable { IsVisitable part.now }
         requires ready { (rest : List code.Part) × IsMadeFor made.old (part.now ∷ rest) }

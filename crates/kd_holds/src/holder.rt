@@ -3,8 +3,8 @@
 ghost use Rattle.std.specs.Prelude.{◌≡◌, ◌<◌, ◌+◌, ◌-◌, ◌^◌, ◌∷◌, ◌++◌, [], IfOk, List, OnErr, OnOk, drop, length, option_map, vec_capacity, vec_len};
 ghost use Rattle.std.specs.List.{AllByRecursion};
 ghost use Rattle.std.specs.Borrow.{Bor};
-ghost use Rattle.kd_desk.specs.Drafts.{IsVisitable, seat_in};
-ghost use Rattle.kd_desk.specs.declared.part.Part as code;
+ghost use Rattle.kd_tables.specs.Drafts.{IsVisitable, seat_in};
+ghost use Rattle.kd_tables.specs.declared.part.Part as code;
 ghost use Rattle.kd_holds.specs.Ahead.{part_ahead};
 ghost use Rattle.kd_holds.specs.Counts.{IsBelow};
 ghost use Rattle.kd_holds.specs.Handing.{IsMadeFor};

@@ -1,8 +1,8 @@
 //! What the holder of the desk placed becomes pending with its caller.
 
 ghost use Rattle.std.specs.Prelude.{◌≡◌, ◌<◌, ◌≤◌, ◌+◌, ◌∷◌, ◌++◌, List, drop, get_or, length, unwrap_or, vec_capacity, vec_len};
-ghost use Rattle.kd_desk.specs.Drafts.{content_at, empty_content, without_content};
-ghost use Rattle.kd_desk.specs.declared.part.Part as code;
+ghost use Rattle.kd_tables.specs.Drafts.{content_at, empty_content, without_content};
+ghost use Rattle.kd_tables.specs.declared.part.Part as code;
 ghost use Rattle.kd_holds.specs.Placed.{IsSpent, all_kept, pending_kept, offer_placed};
 ghost use Rattle.kd_world.specs.State.{closed_pool};
 

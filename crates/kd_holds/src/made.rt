@@ -4,7 +4,7 @@ ghost use Rattle.std.specs.Prelude.{◌≡◌, ◌≢◌, ◌≤◌, [], ◌∷�
 ghost use Rattle.std.specs.List.{AllByRecursion};
 ghost use Rattle.kd_model.specs.declared.slice_no.TheConstants.{SLICES};
 ghost use Rattle.kd_acts.specs.Steps.{drain_step};
-ghost use Rattle.kd_desk.specs.Drafts.{IsVisitable};
+ghost use Rattle.kd_tables.specs.Drafts.{IsVisitable};
 ghost use Rattle.kd_holds.specs.Handing.{AreInOrder, HasBuffer, HasDrained, HasRoom, IsBuffer, IsMadeFor, IsSmall, Stock, drain_told, images_of};
 ghost use Rattle.kd_holds.specs.Stack.{stack_of};
 ghost use Rattle.kd_pool.specs.Told.{drained_into};

@@ -3,8 +3,8 @@
 ghost use Rattle.std.specs.Prelude.{◌≡◌, ◌-◌, ◌^◌, length};
 ghost use Rattle.kd_acts.specs.State.{done};
 ghost use Rattle.kd_acts.specs.Steps.{offer_step, post_step, settled, swept, without_handed};
-ghost use Rattle.kd_desk.specs.Drafts.{IsLength};
-ghost use Rattle.kd_desk.specs.Outs.{out_answer};
+ghost use Rattle.kd_tables.specs.Drafts.{IsLength};
+ghost use Rattle.kd_tables.specs.Outs.{out_answer};
 ghost use Rattle.kd_holds.specs.Counts.{IsPoolBelow};
 ghost use Rattle.kd_holds.specs.Publishing as publishing;
 ghost use Rattle.kd_holds.specs.Publishing.{publish_step};

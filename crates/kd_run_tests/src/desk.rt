@@ -79,7 +79,8 @@ fn is_full_with(alloc: Global, blocked: u8) -> Result<bool, Fail>
     requires { blocked ≤ 64 }
 {
     let command = with_a_frame(hello(alloc)).ok_or("a HELLO without items has a frame")?;
-    let plan = blocked_desk(alloc, blocked)?.plan(alloc, &COMER, command);
+    let desk = blocked_desk(alloc, blocked)?;
+    let plan = kd_desk::plan(&desk, alloc, &COMER, command);
     Ok(matches!(plan, Err(Refusal::TooMany { limit: 64 })))
 }
 

@@ -4,7 +4,7 @@ use Rattle.std.specs.Prelude.{◌≡◌, ℕ, true, List, [], ◌∷◌, ◌++�
 use Rattle.kd_types.specs.Refusal.{refusal_number, refusal_value}
 use Rattle.kd_wire.specs.Opcodes.{opcode_number}
 use Rattle.kd_wire.specs.Commands.{opcode_in}
-use Rattle.kd_desk.specs.declared.part.Out.TheVariants as out
+use Rattle.kd_tables.specs.declared.part.Out.TheVariants as out
 use Rattle.kd_world.specs.State.{Holder, World}
 use Rattle.kd_world.specs.Legal.{Event, legal}
 use Rattle.kd_world.specs.Answers.{says}

@@ -5,9 +5,9 @@ use Rattle.kd_wire.specs.declared.reply.Reply.{Reply}
 use Rattle.kd_wire.specs.declared.reply.Reply.TheVariants as reply
 use Rattle.kd_commands.specs.declared.who.WhoKind.{WhoKind}
 use Rattle.kd_commands.specs.State.{Desk}
-use Rattle.kd_desk.specs.declared.part.Out.{Out}
-use Rattle.kd_desk.specs.Drafts.{Draft, drafted}
-use Rattle.kd_desk.specs.Outs.{End, ended_on, why_ended}
+use Rattle.kd_tables.specs.declared.part.Out.{Out}
+use Rattle.kd_tables.specs.Drafts.{Draft, drafted}
+use Rattle.kd_tables.specs.Outs.{End, ended_on, why_ended}
 use Rattle.kd_commands.specs.declared.who.Who.{Who}
 use Rattle.kd_world.specs.State.{Pending}
 use Rattle.kd_world.specs.Hands.{empty_hand}

@@ -1,5 +1,5 @@
 use Rattle.std.proofs.Common.{◌∙◌, true, false, sym, subst}
-use Rattle.kd_desk.specs.Drafts.{PlanResult}
+use Rattle.kd_tables.specs.Drafts.{PlanResult}
 use Rattle.kd_bus.proofs.Planned.{astray, in_order}
 use Rattle.kd_bus.proofs.preparing.plan.Goals as goal
 

@@ -1,5 +1,5 @@
 use Rattle.std.proofs.Common.{[]}
-use Rattle.kd_desk.specs.Drafts.{IsVisitable}
+use Rattle.kd_tables.specs.Drafts.{IsVisitable}
 use Rattle.kd_bus.proofs.Begun.{made_for_close}
 use Rattle.kd_bus.proofs.starting.shut.Goals as goal
 

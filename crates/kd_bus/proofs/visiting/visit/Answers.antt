@@ -1,7 +1,7 @@
 use Rattle.std.proofs.Common.{◌≡◌, suc, ap, subst, ◌∙◌, refl}
 use Rattle.kd_acts.specs.State.{by_desk}
 use Rattle.kd_acts.specs.Steps.{after, answer}
-use Rattle.kd_desk.specs.Drafts.{content_at, seat_in}
+use Rattle.kd_tables.specs.Drafts.{content_at, seat_in}
 use Rattle.kd_holds.specs.Handing.{answer_told, visit_met}
 use Rattle.kd_holds.proofs.Counting.{visits_count}
 use Rattle.kd_histories.specs.Turns.{Did}

@@ -2,9 +2,9 @@ use Rattle.std.proofs.Common.{◌≡◌, ℕ, ◌+◌, ◌<◌, length, List, []
 use Rattle.std.specs.Prelude.{Option, Some, is_some, false}
 use Rattle.kd_types.specs.declared.refusal.Refusal.{Refusal}
 use Rattle.kd_hands.specs.Views.{part}
-use Rattle.kd_desk.specs.declared.part.Part as code
-use Rattle.kd_desk.specs.Drafts.{content_at, part_with, parts_with, seat_in}
-use Rattle.kd_desk.specs.Outs.{why_ended}
+use Rattle.kd_tables.specs.declared.part.Part as code
+use Rattle.kd_tables.specs.Drafts.{content_at, part_with, parts_with, seat_in}
+use Rattle.kd_tables.specs.Outs.{why_ended}
 use Rattle.kd_acts.specs.State.{raise}
 use Rattle.kd_holds.specs.Handing.{IsDrainedBy, IsMadeFor, answer_told, answers_told, visit_met}
 use Rattle.kd_holds.proofs.Telling.{ends_alike}

@@ -1,6 +1,6 @@
 -- One part after the other.
 use Rattle.std.proofs.Common.{◌+◌, arith, subst, sym}
-use Rattle.kd_desk.specs.Drafts.{Draft}
+use Rattle.kd_tables.specs.Drafts.{Draft}
 use Rattle.kd_holds.proofs.Kept.{IsKeeping, keeps_all, keeps_more}
 use Rattle.kd_holds.proofs.keeping.keep_all.Goals as goal
 

@@ -1,7 +1,7 @@
 -- Each part opens what it opens, and the last pool made is the first one to be opened.
 use Rattle.std.proofs.Common.{◌∙◌}
 use Rattle.std.proofs.lemmas.List.{drop_all}
-use Rattle.kd_desk.specs.Drafts.{IsVisitable}
+use Rattle.kd_tables.specs.Drafts.{IsVisitable}
 use Rattle.kd_holds.specs.Handing.{IsSmall}
 use Rattle.kd_holds.proofs.Stacks.{holds_at, opens_small, opens_words, stack_made}
 use Rattle.kd_holds.proofs.made.pools_of.Goals as goal

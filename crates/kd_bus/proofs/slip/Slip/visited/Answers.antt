@@ -1,8 +1,8 @@
 use Rattle.std.proofs.Common.{ℕ, List, ap, ◌∙◌}
 use Rattle.kd_acts.specs.State.{by_desk}
-use Rattle.kd_desk.specs.Drafts.{Draft, content_at}
-use Rattle.kd_desk.specs.declared.part.Part as code
-use Rattle.kd_desk.specs.declared.part.Out.{Out}
+use Rattle.kd_tables.specs.Drafts.{Draft, content_at}
+use Rattle.kd_tables.specs.declared.part.Part as code
+use Rattle.kd_tables.specs.declared.part.Out.{Out}
 use Rattle.kd_holds.specs.Handing.{Stock, answer_told, visit_met}
 use Rattle.kd_histories.specs.Turns.{Turn, did}
 use Rattle.kd_histories.specs.Pools.{marked_numbers}

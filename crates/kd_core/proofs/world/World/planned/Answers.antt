@@ -1,6 +1,6 @@
 -- The desk's plan, unless another bus is named.
 use Rattle.std.proofs.Common.{◌∙◌, subst, sym}
-use Rattle.kd_desk.specs.Drafts.{PlanResult}
+use Rattle.kd_tables.specs.Drafts.{PlanResult}
 use Rattle.kd_world.specs.Planner.{planned}
 use Rattle.kd_core.specs.Running.{Running}
 use Rattle.kd_core.proofs.Takes.{orders}

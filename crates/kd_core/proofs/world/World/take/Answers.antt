@@ -1,6 +1,6 @@
 use Rattle.std.proofs.Common.{rules, ◌≢◌, ◌<◌, ◌∙◌, ◌^◌, sym, subst, ap}
 use Rattle.kd_types.specs.declared.refusal.Refusal.TheVariants as why
-use Rattle.kd_desk.specs.Drafts.{drafted}
+use Rattle.kd_tables.specs.Drafts.{drafted}
 use Rattle.kd_world.specs.State.{Caller}
 use Rattle.kd_core.specs.Running.{Running}
 use Rattle.kd_core.proofs.Takes.{takes_as_caller, takes_form}

@@ -1,6 +1,6 @@
 -- A refused drain leaves the buffer empty, and one that was done fills it.
 use Rattle.std.proofs.Common.{◌≡◌, None, Some, ap, subst, ◌∙◌}
-use Rattle.kd_desk.specs.declared.part.Out.TheVariants as out
+use Rattle.kd_tables.specs.declared.part.Out.TheVariants as out
 use Rattle.kd_holds.specs.Handing.{HasDrained, Stock}
 use Rattle.kd_holds.proofs.Stocks.{done_keeps, refused_keeps}
 use Rattle.kd_holds.proofs.made.Made.drain.Goals as goal

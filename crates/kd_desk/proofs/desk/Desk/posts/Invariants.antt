@@ -1,9 +1,0 @@
-use Rattle.std.proofs.Common.{◌≡◌, [], map, take}
-use Rattle.kd_model.specs.Words.{those}
-use Rattle.kd_desk.specs.Drafts.{parts_with}
-use Rattle.kd_desk.specs.News.{still_told, news_subject, telling_of}
-use Rattle.kd_commands.specs.Plans.{posted}
-use Rattle.kd_desk.proofs.desk.Desk.posts.Given as goal
-
-abbrev pub invariant-receivers : goal.invariant-receivers
-invariant-receivers l = parts_with [] l.parts.items ≡ map (posted (telling_of l.news)) (those (still_told l.leavers l.self (news_subject l.news)) (take l.conn-index l.self.conns))

@@ -1,7 +1,0 @@
-use Rattle.std.proofs.Common.{take}
-use Rattle.kd_desk.specs.Closing.{seats_on}
-use Rattle.kd_desk.proofs.Marks.{AreMarked}
-use Rattle.kd_desk.proofs.finishing.mark_seats.Given as goal
-
-abbrev pub invariant-conns : goal.invariant-conns
-invariant-conns l = AreMarked l.marks l.initial.marks (seats_on (take l.conn-index l.conns) l.endpoint)

@@ -1,7 +1,0 @@
--- What is kept is what the closure keeps.
-use Rattle.std.proofs.Common.{rules}
-use Rattle.std.proofs.lemmas.Fn.{filter_same}
-use Rattle.kd_desk.proofs.finishing.remove_conn.Goals as goal
-
-pub returns-clause-others : goal.returns-clause-others
-returns-clause-others c = filter_same _ _ _ (λ x b f' k. search rules) _ _ c.retain.ensures.filtered

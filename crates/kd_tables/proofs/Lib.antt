@@ -1,0 +1,4 @@
+pub mod Ending
+pub mod Visits
+pub mod Marks
+pub mod Gone
