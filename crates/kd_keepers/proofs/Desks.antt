@@ -1,6 +1,6 @@
 -- A settled desk through what isn't a plan of its own callers: another bus comes, or a caller of
 -- another bus learns that its seat is free.
-use Rattle.std.specs.Prelude.{◌≡◌, ◌<◌, ℕ, ◌+◌, zero, suc, Bool, true, not, ◌==◌, nat_lt, List, [], ◌∷◌}
+use Rattle.std.specs.Prelude.{◌≡◌, ◌<◌, ℕ, ◌+◌, zero, suc, true, not, ◌==◌, nat_lt, List}
 use Rattle.std.specs.List.{AllByRecursion, range_with_len}
 use Rattle.std.proofs.Common.{arith}
 use Rattle.std.proofs.lemmas.Bool.{lt-ltb}

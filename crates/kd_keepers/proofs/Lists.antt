@@ -3,17 +3,17 @@ use Rattle.std.specs.Prelude.{◌≡◌, ℕ, List, [], ◌∷◌, ◌++◌, Opt
 use Rattle.kd_histories.specs.Turns.{Turn}
 use Rattle.kd_histories.specs.Slots.{AreTold, IsTold, Slot, slot_after, slot_from}
 use Rattle.kd_histories.specs.Seats.{AreFair, Sitter, IsFair, move_of, sitter_after, sitter_from}
-use Rattle.kd_keepers.specs.Keeping.{AreKept, IsKeptAt, Keeping, change_of, keeping_after, keeping_from}
+use Rattle.kd_keepers.specs.Keeping.{AreKept, Endpoint, IsKeptAt, change_of, keeping_after, keeping_from}
 
-pub keeping_snoc : (e : ℕ) (k : Option Keeping) (xs : List (ℕ × Turn)) (x : ℕ × Turn) → keeping_from e k (xs ++ x ∷ []) ≡ keeping_after e x.0 (change_of x.1) (keeping_from e k xs)
+pub keeping_snoc : (x : Endpoint) (k : Option ℕ) (xs : List (ℕ × Turn)) (e : ℕ × Turn) → keeping_from x k (xs ++ e ∷ []) ≡ keeping_after x e.0 (change_of e.1) (keeping_from x k xs)
 unfolding keeping_from
-keeping_snoc e k [] x = refl
-keeping_snoc e k (y ∷ ys) x = keeping_snoc e (keeping_after e y.0 (change_of y.1) k) ys x
+keeping_snoc x k [] e = refl
+keeping_snoc x k (y ∷ ys) e = keeping_snoc x (keeping_after x y.0 (change_of y.1) k) ys e
 
-pub kept_snoc : (e : ℕ) (k : Option Keeping) (xs : List (ℕ × Turn)) (x : ℕ × Turn) → AreKept e k xs → IsKeptAt e x.0 x.1 (keeping_from e k xs) → AreKept e k (xs ++ x ∷ [])
+pub kept_snoc : (x : Endpoint) (k : Option ℕ) (xs : List (ℕ × Turn)) (e : ℕ × Turn) → AreKept x k xs → IsKeptAt x e.0 e.1 (keeping_from x k xs) → AreKept x k (xs ++ e ∷ [])
 unfolding AreKept keeping_from
-kept_snoc e k [] x kept one = (one, tt)
-kept_snoc e k (y ∷ ys) x kept one = (kept.0, kept_snoc e (keeping_after e y.0 (change_of y.1) k) ys x kept.1 one)
+kept_snoc x k [] e kept one = (one, tt)
+kept_snoc x k (y ∷ ys) e kept one = (kept.0, kept_snoc x (keeping_after x y.0 (change_of y.1) k) ys e kept.1 one)
 
 -- ---- a list that is cut
 
@@ -27,10 +27,10 @@ unfolding AreFair sitter_from
 fair_cut c k [] ys all = (tt, all)
 fair_cut c k (x ∷ xs) ys all = let more = fair_cut c (sitter_after c x.0 (move_of x.1) k) xs ys all.1 in ((all.0, more.0), more.1)
 
-pub kept_cut : (e : ℕ) (k : Option Keeping) (xs ys : List (ℕ × Turn)) → AreKept e k (xs ++ ys) → AreKept e k xs × AreKept e (keeping_from e k xs) ys
+pub kept_cut : (x : Endpoint) (k : Option ℕ) (xs ys : List (ℕ × Turn)) → AreKept x k (xs ++ ys) → AreKept x k xs × AreKept x (keeping_from x k xs) ys
 unfolding AreKept keeping_from
-kept_cut e k [] ys all = (tt, all)
-kept_cut e k (x ∷ xs) ys all = let more = kept_cut e (keeping_after e x.0 (change_of x.1) k) xs ys all.1 in ((all.0, more.0), more.1)
+kept_cut x k [] ys all = (tt, all)
+kept_cut x k (e ∷ es) ys all = let more = kept_cut x (keeping_after x e.0 (change_of e.1) k) es ys all.1 in ((all.0, more.0), more.1)
 
 -- ---- the entry behind a cut
 
@@ -42,6 +42,6 @@ pub fair_first : (c : ℕ) (k : Option Sitter) (x : ℕ × Turn) (xs : List (ℕ
 unfolding AreFair
 fair_first c k x xs all = all.0
 
-pub kept_first : (e : ℕ) (k : Option Keeping) (x : ℕ × Turn) (xs : List (ℕ × Turn)) → AreKept e k (x ∷ xs) → IsKeptAt e x.0 x.1 k
+pub kept_first : (x : Endpoint) (k : Option ℕ) (e : ℕ × Turn) (es : List (ℕ × Turn)) → AreKept x k (e ∷ es) → IsKeptAt x e.0 e.1 k
 unfolding AreKept
-kept_first e k x xs all = all.0
+kept_first x k e es all = all.0

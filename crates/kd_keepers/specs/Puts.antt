@@ -15,12 +15,12 @@ use Rattle.kd_histories.specs.Seats.{keeper}
 use Rattle.kd_histories.specs.Lent.{empties, hand_after, lends, out}
 use Rattle.kd_histories.specs.Tie.{Tie, no_entry}
 use Rattle.kd_histories.specs.Puts.{EndsTurn, IsOwn, OwesPut}
-use Rattle.kd_keepers.specs.Keeping.{AreKept, change_of, keeping, unchanged}
+use Rattle.kd_keepers.specs.Keeping.{AreKept, Endpoint, keeping}
 
 -- the tie of all lists, in which the commands of a keeper come from its pass too
 pub record KeptTie (h : Histories Turn) : Type 0 where
   pub tie : Tie h
-  pub kept : (e : ℕ) → AreKept e None (h.lists 0)
+  pub kept : (x : Endpoint) → AreKept x None (h.lists 0)
 
 -- what holds of the bus between any two steps
 abbrev pub KeptFact : Locks Turn → Type 0
@@ -40,8 +40,8 @@ KeptIsTied = (v : View Turn) → Stood KeptFact v → Stood (Fact Tie lends out 
 
 -- the caller is a connection or a keeper of this pass by its own entries; or none
 abbrev pub IsOwnCaller : List (ℕ × Turn) → ℕ → WhoKind → Type 0
-IsOwnCaller own generation (who.Keeper e) =
-    (j : ℕ) × (keeping e own ≡ Some (record { pass = j; generation = generation }))
+IsOwnCaller own generation (who.Keeper n) =
+    (j : ℕ) × (keeping (record { generation = generation; number = n }) own ≡ Some j)
 IsOwnCaller own generation who.Fresh = IsOwn own generation who.Fresh
 IsOwnCaller own generation (who.Conn id s) = IsOwn own generation (who.Conn id s)
 IsOwnCaller own generation (who.Old s) = IsOwn own generation (who.Old s)

@@ -1,17 +1,17 @@
 //! What holds of keepers along every list of the desk, and that entries may be put so. Nothing is
 //! run here; each function's contract is a law.
 
-ghost use Rattle.kd_keepers.specs.Known.{KeepersAreApart, KeepersAreThere, ListsAreHome, OwnKeepersTell};
+ghost use Rattle.kd_keepers.specs.Known.{EndedByKeepers, KeepersAreApart, KeepersAreThere, ListsAreHome, OwnKeepersStay, OwnKeepersTell};
 ghost use Rattle.kd_keepers.specs.Puts.{DesksStayKept, HoldersAreHome, HoldersFindSettled, KeptBegins, KeptCallersAreOwn, KeptIsTied, KeptLeavesMayBePut, PoolsStayKept};
 
 /// Along every list whose entries are true and come from their callers' passes the desk is settled,
-/// and each keeper of the slot's bus has its endpoint.
+/// and each endpoint of the slot's bus that a pass keeps is there.
 #[tactic(auto, using(crate::proofs::Along::lists_are_home))]
 pub fn desks_are_settled()
     ensures { ListsAreHome }
 {}
 
-/// Where a keeper gave a command, it was the one keeper of its endpoint, which was there.
+/// Where a keeper gave a command, its pass kept its endpoint, which was there.
 pub fn endpoints_are_there()
     ensures { KeepersAreThere }
 {}
@@ -22,10 +22,21 @@ pub fn keepers_are_apart()
     ensures { KeepersAreApart }
 {}
 
+/// Whoever ends an endpoint kept it.
+#[tactic(auto, using(crate::proofs::Along::ended_by_keepers))]
+pub fn endpoints_end_by_keepers()
+    ensures { EndedByKeepers }
+{}
+
 /// A pass's own entries tell whether it keeps an endpoint, whatever other passes did.
 #[tactic(auto, using(crate::proofs::Own::own_keepers_tell))]
 pub fn own_entries_tell_keepers()
     ensures { OwnKeepersTell }
+{}
+
+/// A pass keeps an endpoint through every entry of its own that doesn't end it.
+pub fn own_keepers_stay()
+    ensures { OwnKeepersStay }
 {}
 
 /// The tie with keepers holds before any entry.

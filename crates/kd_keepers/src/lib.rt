@@ -22,6 +22,7 @@ mod laws;
 
 pub use laws::{
     callers_stay_their_own, commands_may_be_put, desks_are_settled, desks_stay_kept,
-    endpoints_are_there, holders_are_home, holders_find_settled, keepers_are_apart,
-    own_entries_tell_keepers, pools_stay_kept, the_kept_tie_begins, the_kept_tie_is_a_tie,
+    endpoints_are_there, endpoints_end_by_keepers, holders_are_home, holders_find_settled,
+    keepers_are_apart, own_entries_tell_keepers, own_keepers_stay, pools_stay_kept,
+    the_kept_tie_begins, the_kept_tie_is_a_tie,
 };
