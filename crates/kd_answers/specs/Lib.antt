@@ -1,4 +1,6 @@
--- How long the reply to a command can be. A reader has to believe this file's one module.
+-- How long replies can be. A reader has to believe both files.
 
 -- of every plan, and of whoever leaves the desk of a reached world
 pub mod Short
+-- of a read
+pub mod Reads
