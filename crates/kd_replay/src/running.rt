@@ -32,6 +32,10 @@ const GREATEST: u64 = 4_294_967_295;
 
 /// One event. A world that has run as many as it may takes no further one, as if memory were
 /// wanting.
+///
+/// It is always inlined: the kind of event is then known where it is run, and for a witness that
+/// keeps nothing no value is put together or moved only to be told.
+#[inline(always)]
 #[tactic(auto, unfolding(kd_core::specs::Running::stepped))]
 fn step<W: Witness>(
     world: &mut World,
@@ -56,6 +60,7 @@ fn step<W: Witness>(
 }
 
 /// One event whose answer no reply tells.
+#[inline(always)]
 fn advance<W: Witness>(
     world: &mut World,
     alloc: Global,
@@ -115,6 +120,7 @@ fn visit<W: Witness>(
 }
 
 /// The publishing of the message that is pending for this seat and slice.
+#[inline(always)]
 fn publishing(caller: u64, place: (Seat, SliceNo)) -> Event
     ensures { event_of result ≡ publishes caller place.0 place.1 }
 {
@@ -177,6 +183,7 @@ fn run_at_desk<W: Witness>(
 }
 
 /// Runs an event that is a frame's only one.
+#[inline(always)]
 fn run_alone<W: Witness>(
     world: &mut World,
     alloc: Global,
