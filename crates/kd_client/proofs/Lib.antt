@@ -4,5 +4,6 @@ pub mod Forms
 pub mod Heads
 pub mod NoReply
 pub mod Received
+pub mod Replied
 pub mod Spoken
 pub mod Settled

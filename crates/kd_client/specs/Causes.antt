@@ -10,7 +10,7 @@ use Rattle.kd_wire.specs.Replies.{IsReplyTo, reply_frame, reply_length}
 use Rattle.kd_wire.specs.Typed.{IsTypedReply}
 use Rattle.kd_client.specs.declared.error.ClientError.{ClientError}
 use Rattle.kd_client.specs.declared.error.ClientError.TheVariants.{LinkFault, Ended, BadReply, OutOfMemory}
-use Rattle.kd_client.specs.Exchanges.{Exchange, AreAnswered, commands_of, number_of, frames, replies}
+use Rattle.kd_client.specs.Exchanges.{Exchange, AreAnswered, Heard, commands_of, number_of, frames, replies}
 
 -- a reply to the command of this number that has a spelling
 pub record IsReply (command : ℕ) (reply : Reply) : Type 0 where
@@ -82,6 +82,27 @@ pub record Broke (from : ℕ) (before after : LinkState) (done : List Exchange) 
   pub cause :
       IsCause (from + length (replies done)) before after left bytes count
       (length (frames (commands_of done ++ left))) error
+
+-- commands that were written ahead of their replies ended their client, of which so many bytes had
+-- been read: the first of them were answered, and those that are left were still to be
+pub record BrokeAhead (from : ℕ) (before after : LinkState) (commands : List Command)
+    (error : ClientError) : Type 0 where
+  pub done : List Exchange
+  pub left : List Command
+  pub parts : commands ≡ commands_of done ++ left
+  pub broke : Broke from before after done left error
+
+-- the replies to the first of these commands were read, from this place on, and none to the next one
+pub record HeardFront (from : ℕ) (before after : Side) (commands : List Command)
+    (error : ClientError) : Type 0 where
+  pub done : List Exchange
+  pub next : Command
+  pub left : List Command
+  pub parts : commands ≡ commands_of done ++ next ∷ left
+  pub mid : Side
+  pub place : ℕ
+  pub heard : Heard before mid from place done
+  pub none : HasNone (number_of next) place mid after error
 
 -- bytes that were held grew by what was read
 pub record Came (before after : Option (List ℕ)) (held now : List ℕ) : Type 0 where

@@ -6,28 +6,33 @@ use Rattle.kd_client.specs.Exchanges.{Exchange, replies}
 use Rattle.kd_client.specs.Requests.{outstanding_with, placing, request_to, unsettled}
 use Rattle.kd_client.specs.Receptions.{Reception, exchanges, found}
 
--- a call, with what came of it: a command was asked; a connection was asked for an answer, with a
--- payload up to a deadline; or the next message was looked for
+-- a call, with what came of it: a command was asked; commands were sent ahead of their replies; a
+-- connection was asked for an answer, with a payload up to a deadline; or the next message was
+-- looked for
 pub data Call : Type 0 where
   asked : Exchange → Call
+  sent : List Exchange → Call
   requested : ℕ → List ℕ → ℕ → Result ℕ Refusal → Call
   looked : Reception → Call
 
 -- what it asked and was answered, where so many requests had been asked for
 abbrev pub exchanges_in : ℕ → Call → List Exchange
 exchanges_in before (asked e) = e ∷ []
+exchanges_in before (sent es) = es
 exchanges_in before (requested dst payload deadline answer) =
     placing (request_to (before + 1) dst) payload deadline answer ∷ []
 exchanges_in before (looked reception) = exchanges reception
 
 abbrev pub requests_in : Call → ℕ
 requests_in (asked e) = 0
+requests_in (sent es) = 0
 requests_in (requested dst payload deadline answer) = 1
 requests_in (looked reception) = 0
 
 -- the requests that wait after it, where these waited before
 abbrev pub waiting_after : ℕ → Call → List Request → List Request
 waiting_after before (asked e) waiting = waiting
+waiting_after before (sent es) waiting = waiting
 waiting_after before (requested dst payload deadline answer) waiting =
     outstanding_with (request_to (before + 1) dst) answer waiting
 waiting_after before (looked reception) waiting = unsettled (found waiting reception) waiting

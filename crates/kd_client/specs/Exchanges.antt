@@ -2,7 +2,7 @@
 use Rattle.std.specs.Prelude.{◌≡◌, ℕ, ◌+◌, List, length, map, Result, Ok, Err}
 use Rattle.std.specs.List.{flat_map, zip, AllByRecursion}
 use Rattle.std.specs.Io.KnownBytes.{Appends, Consumes}
-use Rattle.kd_outside.specs.Told.{LinkState}
+use Rattle.kd_outside.specs.Told.{Side, LinkState}
 use Rattle.kd_wire.specs.declared.command.Command.{Command}
 use Rattle.kd_types.specs.declared.refusal.Refusal.{Refusal}
 use Rattle.kd_wire.specs.declared.reply.Reply.{Reply}
@@ -60,4 +60,11 @@ pub record Exchanged (before after : LinkState) (es : List Exchange) : Type 0 wh
 -- a dialogue went on by these, from one state of the link and one place to the other
 pub record Went (before after : LinkState) (from to : ℕ) (es : List Exchange) : Type 0 where
   pub exchanged : Exchanged before after es
+  pub place : to ≡ from + length (replies es)
+
+-- the replies of these were read, each at its own place, from one place to the other; no read failed
+pub record Heard (before after : Side) (from to : ℕ) (es : List Exchange) : Type 0 where
+  pub read : Consumes before.bytes after.bytes (replies es)
+  pub answered : AreAnswered es
+  pub faults : after.faults ≡ before.faults
   pub place : to ≡ from + length (replies es)

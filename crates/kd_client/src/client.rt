@@ -1,15 +1,15 @@
 //! A client.
 
-ghost use Rattle.std.specs.Prelude.{◌≡◌, ◌≢◌, ◌+◌, ◌^◌, ◌<◌, ◌≤◌, [], ◌∷◌, length, IfOk, IfErr};
+ghost use Rattle.std.specs.Prelude.{◌≡◌, ◌≢◌, ◌+◌, ◌^◌, ◌<◌, ◌≤◌, [], ◌∷◌, length, All, IfOk, IfErr};
 ghost use Rattle.kd_image.specs.Images.{any};
 ghost use Rattle.kd_wire.specs.Refusals.{IsWellFormed};
 ghost use Rattle.kd_wire.specs.Replies.{IsReplyTo, reply_length};
 ghost use Rattle.kd_wire.specs.declared.reply.Reply.TheVariants as replies;
-ghost use Rattle.kd_client.specs.Exchanges.{Exchanged, exchange, number_of, outcome};
-ghost use Rattle.kd_client.specs.Causes.{Broke};
+ghost use Rattle.kd_client.specs.Exchanges.{Exchanged, exchange, number_of, outcome, paired};
+ghost use Rattle.kd_client.specs.Causes.{Broke, BrokeAhead};
 ghost use Rattle.kd_client.specs.Requests.{placing, request_command, request_to};
 ghost use Rattle.kd_client.specs.Receptions.{IsReading, Reception, Stopped, exchanges, found};
-ghost use Rattle.kd_client.specs.Clients.{ClientState, after, asked, looked, new_client, requested};
+ghost use Rattle.kd_client.specs.Clients.{ClientState, after, asked, looked, new_client, requested, sent};
 
 use crate::dialogue::Dialogue;
 use crate::error::ClientError;
@@ -76,6 +76,32 @@ impl<L: Link + Drop> Client<L> {
         let mut client = self;
         match client.dialogue.ask(alloc, &command) {
             Ok(reply) => Ok((client, reply)),
+            Err(error) => Err((client.dialogue.link, error)),
+        }
+    }
+
+    /// Writes the frames of commands in one piece, and then reads all their replies, so that they
+    /// take one round trip together; their replies in order.
+    pub fn send_ahead(
+        self,
+        alloc: Global,
+        commands: &[Command],
+    ) -> Result<(Client<L>, Vec<Reply>), (L, ClientError)>
+        requires form { All IsWellFormed commands.now }
+        requires few { self.read < 2 ^ 62 }
+        requires places { length commands.now ≤ 2 ^ 40 }
+        // What was written are the frames, what was read are the replies, each at its own place.
+        ensures ok { IfOk result (λ r. Exchanged (L.told self.link) (L.told r.0.link)
+            (paired commands.now r.1.items)) }
+        ensures count { IfOk result (λ r. length r.1.items ≡ length commands.now) }
+        ensures rest { IfOk result (λ r. r.0
+            ≡ after r.0.link (sent (paired commands.now r.1.items)) self) }
+        ensures err { IfErr result (λ e. BrokeAhead self.read (L.told self.link) (L.told e.0)
+            commands.now e.1) }
+    {
+        let mut client = self;
+        match client.dialogue.send_ahead(alloc, commands) {
+            Ok(replies) => Ok((client, replies)),
             Err(error) => Err((client.dialogue.link, error)),
         }
     }

@@ -47,7 +47,7 @@ impl<L: Link + Drop> Dialogue<L> {
     }
 
     /// Writes the frames of the commands, in order.
-    fn write(&mut self, commands: &[Command]) -> Result<(), ClientError>
+    pub(crate) fn write(&mut self, commands: &[Command]) -> Result<(), ClientError>
         requires { All IsWellFormed commands.now }
         ensures ok { OnOk result (Appends (L.told self.old.link).writing.bytes
             (L.told self.new.link).writing.bytes (frames commands.now)) }
@@ -64,7 +64,7 @@ impl<L: Link + Drop> Dialogue<L> {
     }
 
     /// Reads the reply to a command.
-    fn hear(&mut self, alloc: Global, command: &Command) -> Result<Reply, ClientError>
+    pub(crate) fn hear(&mut self, alloc: Global, command: &Command) -> Result<Reply, ClientError>
         requires { self.old.read < 2 ^ 63 }
         ensures read { IfOk result (λ r. Consumes (L.told self.old.link).reading.bytes
             (L.told self.new.link).reading.bytes (reply_frame (number_of command.now) 0 r)) }

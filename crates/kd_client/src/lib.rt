@@ -15,6 +15,7 @@
 //! link comes back.
 #![tactic(auto)]
 
+mod ahead;
 mod client;
 mod dialogue;
 mod error;
