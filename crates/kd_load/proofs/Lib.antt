@@ -1,0 +1,10 @@
+pub mod Addressed
+pub mod Messages
+pub mod Offers
+pub mod Passing
+pub mod Pools
+pub mod Ranges
+pub mod Runs
+pub mod Sends
+pub mod Shares
+pub mod Whole

@@ -9,11 +9,14 @@
 //!
 //! - `specs/Load`: the draws, and the messages of each thread
 //! - `specs/Counts`: whom a message is for, how many are for each connection, and the summary
-//! - `generator`: the draws; `message`: one message
+//! - `specs/Bus`: the bus of a load, and what is sent there; `specs/Laws`: what its lists come to
+//! - `generator`: the draws; `message`: one message; `laws`: what is proved of the lists
 #![tactic(auto)]
 
 mod generator;
+mod laws;
 mod message;
 
 pub use generator::Generator;
+pub use laws::loads_are_counted;
 pub use message::{Message, Target};
