@@ -1,4 +1,6 @@
 pub mod Addressed
+pub mod Coming
+pub mod Front
 pub mod Messages
 pub mod Offers
 pub mod Passing

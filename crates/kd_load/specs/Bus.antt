@@ -1,5 +1,5 @@
 -- The bus of a load, and what its connections do there: each sends its messages.
-use Rattle.std.specs.Prelude.{◌≡◌, ℕ, ◌+◌, ◌-◌, ◌<◌, ◌≤◌, pos, false, List, [], ◌∷◌, get_or, map, None}
+use Rattle.std.specs.Prelude.{◌≡◌, ℕ, zero, suc, ◌+◌, ◌-◌, ◌<◌, ◌≤◌, pos, false, List, [], ◌∷◌, get_or, map, None}
 use Rattle.std.specs.List.{range_with_len}
 use Rattle.byteorder.specs.Endian.{little_bytes}
 use Rattle.kd_types.specs.declared.creds.Creds.{Creds}
@@ -18,7 +18,7 @@ use Rattle.kd_commands.specs.declared.who.WhoKind.TheVariants as who
 use Rattle.kd_commands.specs.State.{Desk}
 use Rattle.kd_endpoint.specs.Labels.{no_labels}
 use Rattle.kd_seal.specs.Book.{no_seals}
-use Rattle.kd_histories.specs.Turns.{Left, Turn, left}
+use Rattle.kd_histories.specs.Turns.{Left, Started, Turn, left, started}
 use Rattle.kd_load.specs.declared.message.Message.{Message}
 use Rattle.kd_load.specs.declared.message.Target.{Target}
 use Rattle.kd_load.specs.declared.message.Target.TheVariants.{All, One}
@@ -118,3 +118,41 @@ pub record IsMessage (n : ℕ) (m : Message) : Type 0 where
   pub some : 1 ≤ m.sender
   pub low : m.sender ≤ n
   pub target : IsTarget n m.target
+
+-- ---- before any message
+
+-- a bare HELLO, and the rule of a connection
+abbrev pub hello_command : Command
+hello_command = cmd.Hello (record { 0 = 0 }) 1048576 0 0 []
+
+abbrev pub rule_command : List (List ℕ) → ℕ → Command
+rule_command filters i = cmd.MatchAdd false 0 (item.Mask (get_or filters (digit_of i) []) ∷ [])
+
+-- an entry is the command of whoever it is
+pub record IsGiven (w : Who) (x : Command) (e : Turn) : Type 0 where
+  pub it : Left
+  pub is : e ≡ left it
+  pub who_is : it.who ≡ w
+  pub command_is : it.command ≡ x
+  pub aim_is : it.aim ≡ None
+
+-- connections come from i on, so many, each with its rule, one after the other
+abbrev pub AreConnected : List (List ℕ) → ℕ → ℕ → List (ℕ × Turn) → Type 0
+AreConnected filters i zero entries = entries ≡ []
+AreConnected filters i (suc n) [] = ⊥
+AreConnected filters i (suc n) (x ∷ []) = ⊥
+AreConnected filters i (suc n) (x ∷ y ∷ entries) =
+    IsGiven (record { creds = user; member = who.Fresh }) hello_command x.1
+    × IsGiven (sender_at i) (rule_command filters i) y.1
+    × AreConnected filters (suc i) n entries
+
+-- the bus begins, and then they come
+pub record IsSetUp (filters : List (List ℕ)) (n : ℕ) (entries : List (ℕ × Turn)) : Type 0 where
+  pub pass : ℕ
+  pub bus : Started
+  pub rest : List (ℕ × Turn)
+  pub are : entries ≡ (pass, started bus) ∷ rest
+  pub creator : bus.creator ≡ 1000
+  pub size : bus.size ≡ 64
+  pub hashes : bus.hashes ≡ 8
+  pub connected : AreConnected filters 1 n rest

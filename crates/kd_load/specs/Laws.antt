@@ -7,14 +7,14 @@ use Rattle.kd_model.specs.Words.{those}
 use Rattle.kd_acts.specs.State.{Answer, Hold, Pool, Visit, offer, raise}
 use Rattle.kd_hands.specs.Locks.{Histories}
 use Rattle.kd_histories.specs.Turns.{Turn}
-use Rattle.kd_histories.specs.Slots.{slot_of, unborn}
+use Rattle.kd_histories.specs.Slots.{AreTold, slot_of, unborn}
 use Rattle.kd_histories.specs.Pools.{hold_of}
 use Rattle.kd_histories.specs.Visits.{addressed}
 use Rattle.kd_histories.specs.Tie.{Tie}
 use Rattle.kd_load.specs.declared.message.Message.{Message}
 use Rattle.kd_load.specs.Load.{messages_of}
 use Rattle.kd_load.specs.Counts.{offered}
-use Rattle.kd_load.specs.Bus.{AreFilters, AreSendings, IsMessage, loaded_desk}
+use Rattle.kd_load.specs.Bus.{AreFilters, AreSendings, IsMessage, IsSetUp, loaded_desk}
 
 -- it is an offer
 abbrev pub IsOffer : Visit → Type 0
@@ -35,6 +35,12 @@ pub record IsFront (filters : List (List ℕ)) (n : ℕ) (front : List (ℕ × T
       (id : ℕ) → 1 ≤ id → id ≤ n
       → (o : Answer) × (addressed (id - 1) unborn front ≡ (raise 1048576, o) ∷ [])
   pub nobody : (c : ℕ) → n ≤ c → addressed c unborn front ≡ []
+
+-- it is so where the bus began and its connections came one after the other
+abbrev pub SetUpIsFront : Type 0
+SetUpIsFront =
+    (filters : List (List ℕ)) (n : ℕ) (entries : List (ℕ × Turn)) → n ≤ 16 → AreFilters filters
+    → AreTold unborn entries → IsSetUp filters n entries → IsFront filters n entries
 
 -- messages of a load in some order, which keeps the order of those of each thread
 pub record AreOfLoad (seed n sends : ℕ) (ms : List Message) : Type 0 where
