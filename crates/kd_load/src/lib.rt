@@ -18,5 +18,5 @@ mod laws;
 mod message;
 
 pub use generator::Generator;
-pub use laws::{loads_are_counted, set_up_is_front};
+pub use laws::{loads_are_counted, loads_run, set_up_is_front};
 pub use message::{Message, Target};
