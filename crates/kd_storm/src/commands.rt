@@ -1,6 +1,7 @@
 //! The commands of a load.
-ghost use Rattle.std.specs.Prelude.{◌≡◌, ◌<◌, IfOk};
-ghost use Rattle.kd_load.specs.Bus.{IsTarget, command_of, hello_command, rule_command};
+ghost use Rattle.std.specs.Prelude.{◌≡◌, ◌<◌, IfOk, IsTrue};
+ghost use Rattle.kd_wire.specs.WellFormed.{is_well_formed};
+ghost use Rattle.kd_load.specs.Bus.{AreFilters, IsTarget, command_of, hello_command, rule_command};
 
 use crate::filters::Filters;
 use kd_load::{Message, Target};
@@ -11,8 +12,8 @@ use std::alloc::{AllocError, Global};
 /// The destination of what goes to all.
 const ANY: u64 = u64::MAX;
 
-/// The HELLO of each connection: a pool of 1,048,576 bytes, and no metadata.
-pub fn hello(alloc: Global) -> Command
+/// A HELLO with a pool of 1,048,576 bytes, and no metadata.
+fn plain_hello(alloc: Global) -> Command
     ensures { result ≡ hello_command }
 {
     let Some(flags) = HelloFlags::of(0) else {
@@ -27,8 +28,8 @@ pub fn hello(alloc: Global) -> Command
     }
 }
 
-/// The rule of the connection of this id: the mask of its digit's string.
-pub fn rule(alloc: Global, filters: &Filters, id: u64) -> Result<Command, AllocError>
+/// A MATCH_ADD with the mask of the digit of this id.
+fn plain_rule(alloc: Global, filters: &Filters, id: u64) -> Result<Command, AllocError>
     ensures { IfOk result (λ x. x ≡ rule_command filters.now id) }
 {
     let mask = Vec::from_slice(alloc, filters.of((id % 8) as u8))?;
@@ -41,9 +42,8 @@ pub fn rule(alloc: Global, filters: &Filters, id: u64) -> Result<Command, AllocE
     })
 }
 
-/// The SEND of a message: its payload is the eight bytes of its number, the lowest first; to all it
-/// has the filter of its digit, of generation 0.
-pub fn sending(alloc: Global, filters: &Filters, message: &Message) -> Result<Command, AllocError>
+/// A SEND with the number of the message, and to all with the filter of its digit.
+fn plain_sending(alloc: Global, filters: &Filters, message: &Message) -> Result<Command, AllocError>
     requires { IsTarget 16 message.now.target }
     ensures { IfOk result (λ x. x ≡ command_of filters.now message.now) }
 {
@@ -74,4 +74,32 @@ pub fn sending(alloc: Global, filters: &Filters, message: &Message) -> Result<Co
         last: 0,
         items: WireItems::of(items),
     })
+}
+
+/// The HELLO of each connection: a pool of 1,048,576 bytes, and no metadata.
+pub fn hello(alloc: Global) -> Command
+    ensures command { result ≡ hello_command }
+    ensures form { IsTrue (is_well_formed result) }
+{
+    plain_hello(alloc)
+}
+
+/// The rule of the connection of this id: the mask of its digit's string.
+pub fn rule(alloc: Global, filters: &Filters, id: u64) -> Result<Command, AllocError>
+    requires { AreFilters filters.now }
+    ensures command { IfOk result (λ x. x ≡ rule_command filters.now id) }
+    ensures form { IfOk result (λ x. IsTrue (is_well_formed x)) }
+{
+    plain_rule(alloc, filters, id)
+}
+
+/// The SEND of a message: its payload is the eight bytes of its number, the lowest first; to all it
+/// has the filter of its digit, of generation 0.
+pub fn sending(alloc: Global, filters: &Filters, message: &Message) -> Result<Command, AllocError>
+    requires filters { AreFilters filters.now }
+    requires target { IsTarget 16 message.now.target }
+    ensures command { IfOk result (λ x. x ≡ command_of filters.now message.now) }
+    ensures form { IfOk result (λ x. IsTrue (is_well_formed x)) }
+{
+    plain_sending(alloc, filters, message)
 }
