@@ -1,14 +1,13 @@
 -- The commands of a load have their form.
-use Rattle.std.proofs.Common.{◌≡◌, ◌<◌, ◌≤◌, ◌==◌, ℕ, ◌+◌, ◌*◌, Bool, true, false, get_or, List, [], ◌∷◌, length, length-append, refl, ap, sym, subst, ◌∙◌, ◌%◌, arith}
+use Rattle.std.proofs.Common.{◌≡◌, ◌≤◌, ℕ, ◌+◌, ◌*◌, true, false, get_or, List, [], ◌∷◌, length, length-append, refl, ap, sym, subst, ◌∙◌, arith}
 use Rattle.std.specs.Prelude.{pos, IfOk, IsTrue, Result, Ok, Err}
 use Rattle.byteorder.specs.Endian.{little_bytes}
 use Rattle.kd_item.specs.Spelling.{item_length, spelling}
 use Rattle.kd_image.specs.Images.{any}
 use Rattle.kd_wire.specs.declared.command.Command.{Command}
 use Rattle.kd_wire.specs.declared.command.Command.TheVariants as cmd
-use Rattle.kd_wire.specs.declared.item.WireItem.{WireItem}
 use Rattle.kd_wire.specs.declared.item.WireItem.TheVariants as item
-use Rattle.kd_wire.specs.Items.{spelled, wire_entry, wire_length}
+use Rattle.kd_wire.specs.Items.{spelled, wire_entry}
 use Rattle.kd_wire.specs.Refusals.{flaw_of}
 use Rattle.kd_wire.specs.WellFormed.{is_well_formed}
 use Rattle.kd_wire.proofs.Lengths.{length_item, length_one}
