@@ -8,6 +8,7 @@ pub mod Passing
 pub mod Pools
 pub mod Ran
 pub mod Ranges
+mod RowsLoad
 pub mod Runs
 pub mod Sends
 pub mod Shares
