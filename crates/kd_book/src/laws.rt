@@ -1,0 +1,8 @@
+//! What holds along every list of what was done to a book. Nothing is run here; each function's
+//! contract is a law.
+ghost use Rattle.kd_book.specs.Along.{LowestIsFound};
+
+/// The slot that is found without a name has a bus, and no slot below it has one.
+pub fn found_without_name_is_lowest()
+    ensures { LowestIsFound }
+{}
