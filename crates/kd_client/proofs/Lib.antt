@@ -2,8 +2,8 @@ pub mod Called
 pub mod Coming
 pub mod Forms
 pub mod Heads
+pub mod Hearing
 pub mod NoReply
 pub mod Received
-pub mod Replied
-pub mod Spoken
 pub mod Settled
+pub mod Spoken

@@ -31,17 +31,13 @@ impl<L: Link + Drop> Dialogue<L> {
         ensures kept { (L.told self.new.link).writing ≡ (L.told self.old.link).writing }
     {
         'commands: for command in commands {
-            let reply = match self.hear(alloc, command) {
-                Ok(reply) => reply,
-                Err(error) => return Err(error),
-            };
-            heard.push(reply).unwrap();
+            let reply = self.hear(alloc, command)?;
+            heard.push_reserved(reply);
         }
         Ok(())
     }
 
     /// Writes the frames of the commands in one piece, and then reads all their replies.
-    #[tactic(auto, using(crate::proofs::Replied::ahead_unsent, crate::proofs::Replied::ahead_none, crate::proofs::Replied::ahead_unheard))]
     pub(crate) fn send_ahead(
         &mut self,
         alloc: Global,

@@ -1,6 +1,6 @@
 //! Links in memory, and clients that ask over them.
 
-ghost use Rattle.std.specs.Prelude.{IfOk};
+ghost use Rattle.std.specs.Prelude.{All, IfOk};
 ghost use Rattle.kd_wire.specs.Refusals.{IsWellFormed};
 
 use crate::table::{bytes_of, number_of};
@@ -94,6 +94,45 @@ pub fn ask_each(alloc: Global, link: MemLink, frames: &str) -> Result<Heard, Fai
         link: client.into_link(),
         error: None,
     })
+}
+
+/// The commands whose frames the lines spell.
+fn commands_of(alloc: Global, frames: &str) -> Result<Vec<Command>, Fail>
+    ensures { IfOk result (λ commands. All IsWellFormed commands.items) }
+{
+    let mut commands = Vec::new(alloc);
+    'frames: for line in frames.lines() {
+        let command = command_of(alloc, line)?;
+        commands.push(command)?;
+    }
+    Ok(commands)
+}
+
+/// Sends the commands of these frames ahead of their replies.
+pub fn send_ahead(alloc: Global, link: MemLink, frames: &str) -> Result<Heard, Fail> {
+    let client = client_of(alloc, link)?;
+    let commands = commands_of(alloc, frames)?;
+    if client.place() > 1 << 30 || commands.len() > 1 << 10 {
+        return Err("too much for one call")?;
+    }
+    match client.send_ahead(alloc, &commands) {
+        Ok((client, heard)) => {
+            let mut replies = Vec::new(alloc);
+            for (command, reply) in commands.iter().zip(&heard) {
+                write_reply(&mut replies, 0, command.opcode().number(), reply)?;
+            }
+            Ok(Heard {
+                replies,
+                link: client.into_link(),
+                error: None,
+            })
+        }
+        Err((link, error)) => Ok(Heard {
+            replies: Vec::new(alloc),
+            link,
+            error: Some(error),
+        }),
+    }
 }
 
 /// The bytes of replies: a line `reply` has their words, a line `image` those of an image that is
