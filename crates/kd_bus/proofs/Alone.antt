@@ -70,13 +70,13 @@ done_of h a = record { generation = h.generation; freed = []; act = a; answer = 
 
 -- the pass took the lock of the seat s, whose pool is h, and its entry tells the act a
 module _ (s l : ℕ) (at : l ≡ suc s) (v v₁ : View Turn) (h : Hold) (took_l : TookIt l v v₁ (locked.Pool h)) where
-  took : TookIt (suc s) v v₁ (locked.Pool h)
+  pub took : TookIt (suc s) v v₁ (locked.Pool h)
   took = subst (λ k. TookIt k v v₁ (locked.Pool h)) at took_l
 
-  abbrev list : List (ℕ × Turn)
+  abbrev pub list : List (ℕ × Turn)
   list = (part v₁ (suc s)).seen
 
-  hold_is : hold_of list ≡ h
+  pub hold_is : hold_of list ≡ h
   hold_is = same_pool (hold_of list) h (sym took.value.0)
 
   pub counts_fit : IsBelow (2 ^ 63 - 1) h
@@ -126,6 +126,27 @@ module _ (s l : ℕ) (at : l ≡ suc s) (v v₁ : View Turn) (h : Hold) (took_l 
       go (drained images) e = tt
       go (bytes_of bytes) e = tt
 
+  -- the turn, whatever its entry says
+  pub turn_so : (e : Turn) (v₂ : View Turn) → PassedIt l e v₁ v₂ → OneTurn (suc s) list e v v₂
+  turn_so e v₂ put_l = record {
+    begins = took.begins;
+    seen = ap (λ (p : Part Turn). p.seen) put.here ∙ ap (λ (n : ℕ). list ++ (n, e) ∷ []) took.name;
+    own = ap (λ (p : Part Turn). p.own) put.here ∙ (ap (λ xs. xs ++ (v₁.name, e) ∷ []) took.own ∙ ap (λ (n : ℕ). (part v (suc s)).own ++ (n, e) ∷ []) took.name);
+    others = λ k ne. put.others k ne ∙ took.others k ne;
+    hand_is = put.hands (suc s)
+        ∙ (ap (λ b. cond b (hand_by e (hand v₁ (suc s))) (cond ((suc s == 0) && is_at (suc s) (empties e)) [] (hand v₁ (suc s)))) (eq-eqb (suc s) (suc s) refl)
+        ∙ ap (λ hs. hand_by e (slice_index_or hs (suc s) [])) took.hands);
+    other_hands = λ k ne. put.hands k
+        ∙ (ap (λ b. cond b (hand_by e (hand v₁ (suc s))) (cond ((suc s == 0) && is_at k (empties e)) [] (hand v₁ k))) (ne_eqb k (suc s) ne)
+        ∙ (ap (λ b. cond (b && is_at k (empties e)) [] (hand v₁ k)) (ne_eqb (suc s) 0 (λ z. omega arith)) ∙ ap (λ hs. slice_index_or hs k []) took.hands));
+    name = put.name ∙ took.name;
+    turns = put.turns ∙ took.turns;
+    steps = put.steps ∙ took.steps;
+  }
+    where
+      put : PassedIt (suc s) e v₁ v₂
+      put = subst (λ k. PassedIt k e v₁ v₂) at put_l
+
   module _ (free : (k : ℕ) → (part v k).holds ≡ false) (a : Act) (e : Turn) (is : e ≡ acted h a) where
     is_done : IsDone (hold_of list) (done_of h a)
     unfolding hold_freed
@@ -160,27 +181,7 @@ module _ (s l : ℕ) (at : l ≡ suc s) (v v₁ : View Turn) (h : Hold) (took_l 
 
     -- the turn
     pub one_turn : (v₂ : View Turn) → PassedIt l e v₁ v₂ → OneTurn (suc s) list (acted (hold_of list) a) v v₂
-    one_turn v₂ put_l = subst (λ x. OneTurn (suc s) list (acted x a) v v₂) (sym hold_is) (subst (λ t. OneTurn (suc s) list t v v₂) is turn)
-      where
-        put : PassedIt (suc s) e v₁ v₂
-        put = subst (λ k. PassedIt k e v₁ v₂) at put_l
-
-        turn : OneTurn (suc s) list e v v₂
-        turn = record {
-          begins = took.begins;
-          seen = ap (λ (p : Part Turn). p.seen) put.here ∙ ap (λ (n : ℕ). list ++ (n, e) ∷ []) took.name;
-          own = ap (λ (p : Part Turn). p.own) put.here ∙ (ap (λ xs. xs ++ (v₁.name, e) ∷ []) took.own ∙ ap (λ (n : ℕ). (part v (suc s)).own ++ (n, e) ∷ []) took.name);
-          others = λ k ne. put.others k ne ∙ took.others k ne;
-          hand_is = put.hands (suc s)
-              ∙ (ap (λ b. cond b (hand_by e (hand v₁ (suc s))) (cond ((suc s == 0) && is_at (suc s) (empties e)) [] (hand v₁ (suc s)))) (eq-eqb (suc s) (suc s) refl)
-              ∙ ap (λ hs. hand_by e (slice_index_or hs (suc s) [])) took.hands);
-          other_hands = λ k ne. put.hands k
-              ∙ (ap (λ b. cond b (hand_by e (hand v₁ (suc s))) (cond ((suc s == 0) && is_at k (empties e)) [] (hand v₁ k))) (ne_eqb k (suc s) ne)
-              ∙ (ap (λ b. cond (b && is_at k (empties e)) [] (hand v₁ k)) (ne_eqb (suc s) 0 (λ z. omega arith)) ∙ ap (λ hs. slice_index_or hs k []) took.hands));
-          name = put.name ∙ took.name;
-          turns = put.turns ∙ took.turns;
-          steps = put.steps ∙ took.steps;
-        }
+    one_turn v₂ put_l = subst (λ x. OneTurn (suc s) list (acted x a) v v₂) (sym hold_is) (subst (λ t. OneTurn (suc s) list t v v₂) is (turn_so e v₂ put_l))
 
 -- what the entry of a receive, and of a publishing, says
 pub says_receive : (h : Hold) (mode : RecvMode) (n : ℕ) (r : Result Got Refusal) (e : Turn) → e ≡ did (record { generation = n; freed = []; act = receive mode; answer = receive_answer r }) → n ≡ h.generation → receive_answer r ≡ answer h (receive mode) → e ≡ acted h (receive mode)

@@ -1,5 +1,5 @@
 -- What a connection keeps is what its pass has in hand, through each call.
-use Rattle.std.specs.Prelude.{◌≡◌, ◌≢◌, ◌<◌, ℕ, zero, suc, ◌==◌, ◌&&◌, ◌||◌, Bool, true, false, not, cond, List, [], ◌∷◌, get_or, set, length, slice_index_or, Option, Some, None, Result, OnErr, OnOk, refl}
+use Rattle.std.specs.Prelude.{◌≡◌, ◌≢◌, ◌<◌, ℕ, zero, suc, ◌==◌, ◌&&◌, ◌||◌, Bool, true, false, not, cond, List, [], ◌∷◌, get_or, set, length, slice_index_or, Option, Some, None, Result, Ok, Err, OnErr, OnOk, refl}
 use Rattle.std.proofs.lemmas.Map.Views.{any-filter_same}
 use Rattle.std.proofs.Common.{sym, ap, ◌∙◌, subst, arith, eq-eqb, eqb-true, ne_eqb, length-set, get_or-set_same, get_or-set_other}
 use mathlib.Core.Logic.{dite}
@@ -149,3 +149,22 @@ release_keeps c m p p' new r b a freed_ok marked_ok kept_err = go (get_or c.hand
 -- who made the connection has its seat
 pub belongs_sits : (v : View Turn) (c : Conn) → Belongs v c → (t : Sitter) × (sitter c.seat (part v 0).own ≡ Some t)
 belongs_sits v c b = (record { pass = b.own.0; generation = c.generation; id = c.id }, b.own.1)
+
+-- ---- connections at other seats
+
+pub receives_others : (s : ℕ) (mode : RecvMode) (r : Result Got Refusal) (old new : List (Option Told)) (v v' : View Turn) (k : Conn) → k.seat ≢ s → Belongs v k → Receives s mode r old new v v' → Belongs v' k
+receives_others s mode r old new v v' k ne b it = record {
+  low = b.low;
+  sized = b.sized;
+  own = subst (λ (p : Part Turn). IsOwn p.own k.generation (who.Conn k.id k.seat)) (sym (it.turn.others 0 (λ z. omega arith))) b.own;
+  kept = λ n. ap (hand_has n) (it.turn.other_hands (suc k.seat) (λ z. ne (omega (arith, z)))) ∙ b.kept n;
+}
+
+pub release_others : (s m : ℕ) (r : Result (Unit {0}) Refusal) (h h' : List (Option Told)) (p p' : Sight Turn) (k : Conn) → k.seat ≢ s → Belongs p.view k → OnOk r (Marked (suc s) m p.view p'.view) → OnErr r ((p' ≡ p) × (h' ≡ h)) → Belongs p'.view k
+release_others s m (Ok x) h h' p p' k ne b it same = record {
+  low = b.low;
+  sized = b.sized;
+  own = subst (λ (q : Part Turn). IsOwn q.own k.generation (who.Conn k.id k.seat)) (ap (λ ps. slice_index_or ps 0 blank) (sym it.parts)) b.own;
+  kept = λ n. ap (hand_has n) (it.other_hands (suc k.seat) (λ z. ne (omega (arith, z)))) ∙ b.kept n;
+}
+release_others s m (Err why) h h' p p' k ne b it same = subst (λ (q : Sight Turn). Belongs q.view k) (sym same.0) b

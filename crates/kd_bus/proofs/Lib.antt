@@ -1,5 +1,6 @@
 pub mod Alone
 pub mod Kept
+pub mod Looking
 pub mod Opening
 pub mod Owed
 pub mod Holding

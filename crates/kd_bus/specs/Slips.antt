@@ -1,7 +1,10 @@
 -- What a slip says.
-use Rattle.std.specs.Prelude.{ℕ, List, [], slice_index}
+use Rattle.std.specs.Prelude.{ℕ, Bool, true, false, List, [], Result, Ok, Err, Vec, slice_index}
+use Rattle.std.specs.Global.{Global}
+use Rattle.kd_types.specs.declared.refusal.Refusal.{Refusal}
+use Rattle.kd_types.specs.declared.refusal.Refusal.TheVariants.{OutOfMemory}
 use Rattle.kd_wire.specs.declared.reply.Reply.TheVariants as reply
-use Rattle.kd_acts.specs.State.{by_desk, publish, receive}
+use Rattle.kd_acts.specs.State.{Answer, by_desk, bytes_of, publish, read, receive, refused}
 use Rattle.kd_tables.specs.Drafts.{content_at}
 use Rattle.kd_histories.specs.Pools.{marked_numbers}
 use Rattle.kd_pool.specs.Told.{receive_answer}
@@ -14,6 +17,33 @@ use Rattle.kd_bus.specs.declared.slip.Note.TheVariants as note
 -- the four words that a sweep found
 abbrev pub words_in : List ℕ → ℕ → ℕ
 words_in marks q = slice_index marks q
+
+-- what a read is answered
+abbrev pub read_told : Result (Vec ℕ Global) Refusal → Answer
+read_told (Ok bytes) = bytes_of bytes.items
+read_told (Err why) = refused why
+
+-- whether it wanted memory
+abbrev pub is_memory : Refusal → Bool
+is_memory OutOfMemory = true
+is_memory _ = false
+
+abbrev pub is_wanting : Result (Vec ℕ Global) Refusal → Bool
+is_wanting (Ok bytes) = false
+is_wanting (Err why) = is_memory why
+
+-- its entry; a read that wanted memory did nothing
+abbrev pub read_turn : ℕ → ℕ → Bool → Result (Vec ℕ Global) Refusal → Turn
+read_turn g n sealed r =
+    elim (is_wanting r) [
+      | true ↦ idle
+      | false ↦ did (record {
+        generation = g;
+        freed = [];
+        act = read n sealed;
+        answer = read_told r;
+      })
+    ]
 
 -- what its turn did
 unfoldable pub turn_told : Note → Turn
@@ -68,4 +98,6 @@ turn_told (note.Received r) =
       act = receive r.mode.value;
       answer = receive_answer r.got.value;
     })
+turn_told (note.Read r) =
+    read_turn r.generation.value r.number.value r.sealed.value r.read.value
 turn_told note.Idle = idle

@@ -1,5 +1,6 @@
 -- What a call on one pool tells.
-use Rattle.std.specs.Prelude.{◌≡◌, ◌≢◌, ◌+◌, ◌^◌, ◌<◌, nat_le, ℕ, suc, Bool, true, false, List, [], ◌∷◌, ◌++◌, Option, Some, None, Result, Ok, Err, get_or, length}
+use Rattle.std.specs.Prelude.{◌≡◌, ◌≢◌, ◌+◌, ◌^◌, ◌<◌, nat_le, ℕ, suc, ◌&&◌, not, Bool, true, false, List, [], ◌∷◌, ◌++◌, Option, Some, None, Result, Ok, Err, Vec, get_or, length}
+use Rattle.std.specs.Global.{Global}
 use mathlib.Core.List.{IsPrefix}
 use Rattle.kd_types.specs.declared.creds.Kind.{Kind}
 use Rattle.kd_types.specs.declared.creds.Kind.TheVariants as kind
@@ -7,7 +8,8 @@ use Rattle.kd_types.specs.declared.refusal.Refusal.{Refusal}
 use Rattle.kd_types.specs.declared.refusal.Refusal.TheVariants.{NoSuchSlice, NotReceived, TurnsSpent, WrongState}
 use Rattle.kd_acts.specs.declared.receive.Got.{Got}
 use Rattle.kd_acts.specs.declared.receive.RecvMode.{RecvMode}
-use Rattle.kd_acts.specs.State.{Act, Answer, Hold, got, publish, receive}
+use Rattle.kd_acts.specs.State.{Act, Answer, Hold, got, publish, read, receive, refused}
+use Rattle.kd_acts.specs.Lasting.{is_handed_in}
 use Rattle.kd_acts.specs.Steps.{answer}
 use Rattle.kd_pool.specs.Told.{receive_answer}
 use Rattle.kd_world.specs.Hands as hands
@@ -26,6 +28,7 @@ use Rattle.kd_histories.specs.Pairs.{owed}
 use Rattle.kd_histories.specs.Lent.{hand_by}
 use Rattle.kd_histories.specs.Puts.{IsOwn}
 use Rattle.kd_bus.specs.declared.conn.Conn.{Conn}
+use Rattle.kd_bus.specs.Slips.{is_wanting, read_told, read_turn}
 
 -- ---- one turn
 
@@ -91,6 +94,28 @@ pub record Receives (seat : ℕ) (mode : RecvMode) (result : Result Got Refusal)
   pub answer_is : receive_answer result ≡ answer (hold_of list) (receive mode)
   pub hand_is : new ≡ hands.hand_received mode (answer (hold_of list) (receive mode)) old
   pub is_new : IsNew (answer (hold_of list) (receive mode)) (hand v (suc seat))
+
+-- a slice that was received and isn't in the hand any more was given back, though its mark may not
+-- be swept yet
+abbrev pub is_given_back : Hold → List (Option Told) → ℕ → Bool
+is_given_back h told n = is_handed_in n h && not (is_kept (get_or told n None))
+
+-- it isn't found; of any other number the pool tells
+abbrev pub read_answer : Hold → List (Option Told) → ℕ → Bool → Answer
+read_answer h told n sealed =
+    elim (is_given_back h told n) [
+      | true ↦ refused NoSuchSlice
+      | false ↦ answer h (read n sealed)
+    ]
+
+-- one read at the seat's pool, which is answered by the pool where it stood; one that wanted memory
+-- left an entry that did nothing
+pub record Reads (seat n : ℕ) (sealed : Bool) (result : Result (Vec ℕ Global) Refusal)
+    (told : List (Option Told)) (v v' : View Turn) : Type 0 where
+  pub list : List (ℕ × Turn)
+  pub turn : OneTurn (suc seat) list (read_turn (hold_of list).generation n sealed result) v v'
+  pub answer_is :
+      is_wanting result ≡ false → read_told result ≡ read_answer (hold_of list) told n sealed
 
 -- what a release is answered, by the hand alone
 abbrev pub hand_answer : Option Told → Result (Unit {0}) Refusal

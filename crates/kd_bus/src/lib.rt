@@ -8,7 +8,8 @@
 //!
 //!   start                a turn on the desk and, while it is held, one on each pool that is closed
 //!   command              a turn on the desk and, while it is held, one on the pool of each visit
-//!   publish, receive     a turn on the pool of the seat
+//!   publish, receive,    a turn on the pool of the seat
+//!   read
 //!   release              one step on the seat's mark words, which waits for nobody
 //! ```
 //!
@@ -18,7 +19,7 @@
 //! - `bus`: the bus and its passes; `locked`: what lies behind the locks; `slip`: what an entry
 //!   says
 //! - `conn`, `member`: what a caller is, with its hand
-//! - `publishing`, `receiving`, `releasing`: the calls on one pool
+//! - `publishing`, `receiving`, `reading`, `releasing`: the calls on one pool
 //! - `starting`: a bus begins in the slot
 //! - `closing`: all passes come back, and the desk and the pools come out
 //! - `command`: a pass gives a command; `preparing`, `visiting`, `pendings`, `leaving`: what it
@@ -35,6 +36,7 @@ mod member;
 mod pendings;
 mod preparing;
 mod publishing;
+mod reading;
 mod receiving;
 mod releasing;
 mod slip;

@@ -1,10 +1,11 @@
 //! What a pass does at one pool to receive from it.
-ghost use Rattle.std.specs.Prelude.{◌≡◌, ◌<◌, ◌^◌, ℕ, Err, IsTrue, None, Some, suc};
+ghost use Rattle.std.specs.Prelude.{◌≡◌, ◌≢◌, ◌<◌, ◌^◌, ℕ, Err, IsTrue, None, Some, suc};
 ghost use Rattle.kd_types.specs.declared.refusal.Refusal.{Refusal};
 ghost use Rattle.kd_hands.specs.Views.{part};
 ghost use Rattle.kd_histories.specs.Seats.{Sitter, sitter};
 ghost use Rattle.kd_bus.specs.Sight.{IsIdle};
 ghost use Rattle.kd_bus.specs.Turned.{Belongs, Receives, turned_away};
+ghost use Rattle.kd_bus.specs.declared.conn.Conn as code;
 
 use crate::bus::{Bus, BusPass, lock_of};
 use crate::conn::Conn;
@@ -84,6 +85,8 @@ impl Bus {
         ensures gate { pass.new.gate ≡ pass.old.gate }
         ensures aim { pass.new.aim ≡ pass.old.aim }
         ensures own { Belongs pass.new.view conn.new }
+        ensures own_others { (c : code.Conn) → c.seat ≢ conn.old.seat → Belongs pass.old.view c
+            → Belongs pass.new.view c }
         ensures conn { conn.new ≡ record conn.old { hand = conn.new.hand } }
         ensures away { (why : Refusal)
             → turned_away pass.old.view.turns conn.old.kind ≡ Some why

@@ -1,5 +1,5 @@
 //! What a pass does to give a slice back.
-ghost use Rattle.std.specs.Prelude.{◌≡◌, ◌<◌, None, OnErr, OnOk, Some, get_or, true, suc};
+ghost use Rattle.std.specs.Prelude.{◌≡◌, ◌≢◌, ◌<◌, None, OnErr, OnOk, Some, get_or, true, suc};
 ghost use Rattle.kd_hands.specs.Lists.{hand_has};
 ghost use Rattle.kd_hands.specs.Views.{hand as pass_hand};
 ghost use Rattle.kd_turn.specs.Told.{Marked};
@@ -7,6 +7,7 @@ ghost use Rattle.kd_world.specs.Hands.{with_told};
 ghost use Rattle.kd_world.specs.declared.told.Told as told;
 ghost use Rattle.kd_bus.specs.Sight.{IsIdle};
 ghost use Rattle.kd_bus.specs.Turned.{Belongs, hand_answer, release_answer};
+ghost use Rattle.kd_bus.specs.declared.conn.Conn as code;
 
 use crate::bus::{Bus, BusPass, lock_of};
 use crate::conn::Conn;
@@ -57,6 +58,8 @@ impl Bus {
         ensures gate { pass.new.gate ≡ pass.old.gate }
         ensures aim { pass.new.aim ≡ pass.old.aim }
         ensures own { Belongs pass.new.view conn.new }
+        ensures own_others { (c : code.Conn) → c.seat ≢ conn.old.seat → Belongs pass.old.view c
+            → Belongs pass.new.view c }
         ensures answer { result
             ≡ release_answer conn.old.kind (get_or conn.old.hand number None) }
         ensures freed { OnOk result

@@ -8,7 +8,7 @@ ghost use Rattle.kd_holds.specs.Publishing as publishing;
 ghost use Rattle.kd_histories.specs.Pools.{marked_numbers};
 ghost use Rattle.kd_histories.specs.Turns.{did, idle, left, started};
 ghost use Rattle.kd_wire.specs.declared.reply.Reply as reply;
-ghost use Rattle.kd_bus.specs.Slips.{turn_told, words_in};
+ghost use Rattle.kd_bus.specs.Slips.{read_turn, turn_told, words_in};
 
 use kd_bloom::Param;
 use kd_desk::{Out, Part, Plan, Who, WhoKind};
@@ -82,6 +82,15 @@ pub struct Receiving {
     pub got: Snapshot<Result<Got, Refusal>>,
 }
 
+/// A read at a pool of a generation, and what it read.
+#[derive(Drop)]
+pub struct Reading {
+    pub generation: Snapshot<u64>,
+    pub number: Snapshot<u32>,
+    pub sealed: Snapshot<bool>,
+    pub read: Snapshot<Result<Vec<u8>, Refusal>>,
+}
+
 /// A command as it was given, and by whom.
 #[derive(Drop)]
 pub struct Given {
@@ -99,6 +108,7 @@ pub enum Note {
     Visited(Visiting),
     Published(Publishing),
     Received(Receiving),
+    Read(Reading),
     Idle,
 }
 
@@ -274,6 +284,23 @@ impl Slip {
             generation: Snapshot::of(&generation),
             mode: Snapshot::of(&mode),
             got: Snapshot::of(got),
+        }))
+    }
+
+    /// The entry of a read; that of a turn that did nothing where memory was wanted.
+    pub(crate) fn read(
+        generation: u64,
+        number: u32,
+        sealed: bool,
+        read: &Result<Vec<u8>, Refusal>,
+    ) -> Slip
+        ensures { result ≡ read_turn generation number sealed read.now }
+    {
+        Slip::of(Note::Read(Reading {
+            generation: Snapshot::of(&generation),
+            number: Snapshot::of(&number),
+            sealed: Snapshot::of(&sealed),
+            read: Snapshot::of(read),
         }))
     }
 }
