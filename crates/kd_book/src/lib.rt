@@ -19,4 +19,4 @@ mod book;
 mod laws;
 
 pub use book::{Book, Found, SLOTS};
-pub use laws::found_without_name_is_lowest;
+pub use laws::{found_without_name_is_lowest, names_are_distinct, slots_with_buses_are_odd};
