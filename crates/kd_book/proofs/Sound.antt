@@ -117,11 +117,11 @@ entered b s slot generation name new free is = record {
     distinct : (i j : ℕ) (n : List ℕ) → slice_index_or (slice_set b.names slot (Some name)) i None ≡ Some n → slice_index_or (slice_set b.names slot (Some name)) j None ≡ Some n → i ≡ j
     distinct i j n q r = dite (ℕ_discrete i slot)
         (λ z. dite (ℕ_discrete j slot)
-            (λ y. z ∙ sym y)
-            (λ ne. absurd (strange j n (same_Some n name (sym (subst (λ k. slice_index_or (slice_set b.names slot (Some name)) k None ≡ Some n) z q) ∙ here)) (sym (else j ne) ∙ r))))
+        (λ y. z ∙ sym y)
+        (λ ne. absurd (strange j n (same_Some n name (sym (subst (λ k. slice_index_or (slice_set b.names slot (Some name)) k None ≡ Some n) z q) ∙ here)) (sym (else j ne) ∙ r))))
         (λ ne. dite (ℕ_discrete j slot)
-            (λ y. absurd (strange i n (same_Some n name (sym (subst (λ k. slice_index_or (slice_set b.names slot (Some name)) k None ≡ Some n) y r) ∙ here)) (sym (else i ne) ∙ q)))
-            (λ no. s.distinct i j n (sym (else i ne) ∙ q) (sym (else j no) ∙ r)))
+        (λ y. absurd (strange i n (same_Some n name (sym (subst (λ k. slice_index_or (slice_set b.names slot (Some name)) k None ≡ Some n) y r) ∙ here)) (sym (else i ne) ∙ q)))
+        (λ no. s.distinct i j n (sym (else i ne) ∙ q) (sym (else j no) ∙ r)))
 
 even_after : (g : ℕ) → is_odd g ≡ true → is_odd (g + 1) ≡ false
 even_after g is = grind (arith, common_steps)

@@ -17,6 +17,8 @@
 
 mod book;
 mod laws;
+#[cfg(test)]
+mod tests;
 
 pub use book::{Book, Found, SLOTS};
 pub use laws::{found_without_name_is_lowest, names_are_distinct, slots_with_buses_are_odd};
