@@ -1,8 +1,7 @@
 -- Replies that are read one after the other, to commands that were written ahead of them.
-use Rattle.std.proofs.Common.{◌≡◌, ℕ, suc, ◌+◌, ◌<◌, List, [], ◌∷◌, ◌++◌, length, take, drop, map, get_or, refl, sym, ap, subst, ◌∙◌, length-append, arith, Result, Ok, Err}
+use Rattle.std.proofs.Common.{◌≡◌, ℕ, suc, ◌+◌, ◌<◌, List, [], ◌∷◌, ◌++◌, length, take, drop, get_or, refl, sym, ap, subst, ◌∙◌, length-append, arith, Result, Ok, Err}
 use Rattle.std.specs.Prelude.{IfErr}
 use Rattle.std.specs.Result.{IsErrAnd}
-use Rattle.std.specs.List.{zip}
 use Rattle.std.specs.Io.KnownBytes.{Appends, Consumes}
 use Rattle.std.proofs.lemmas.List.{take-append-drop, length-take-le}
 use Rattle.std.proofs.Math.Seq.{drop-cons, take-suc}
@@ -14,7 +13,7 @@ use Rattle.kd_wire.specs.Replies.{reply_frame, IsReplyTo}
 use Rattle.kd_client.specs.declared.error.ClientError.{ClientError}
 use Rattle.kd_client.specs.declared.error.ClientError.TheVariants.{OutOfMemory}
 use Rattle.kd_client.specs.Exchanges.{Exchange, Heard, Went, exchange, commands_of, frames, number_of, paired, replies}
-use Rattle.kd_client.specs.Causes.{Broke, BrokeAhead, HasNone, HeardFront, IsUnsent}
+use Rattle.kd_client.specs.Causes.{BrokeAhead, HasNone, HeardFront, IsUnsent}
 use Rattle.kd_client.proofs.Spoken.{answered_append, broke_none, broke_unheard, broke_unsent, replies_append, replies_none, replies_one}
 
 -- ---- as many replies as commands
@@ -60,7 +59,7 @@ pub heard_more : (a b c : Side) (from at to : ℕ) (cs : List Command) (rs : Lis
     → Heard a c from to (paired (take (i + 1) cs) (rs ++ reply ∷ []))
 heard_more a b c from at to cs rs i command reply lt is many h read answers same place =
     let all : paired (take (i + 1) cs) (rs ++ reply ∷ []) ≡ paired (take i cs) rs ++ exchange command reply ∷ [] =
-        ap (λ (l : List Command). paired l (rs ++ reply ∷ [])) (taken_one cs i command lt is) ∙ paired_more (take i cs) rs command reply (taken_length cs i lt ∙ sym many) in
+    ap (λ (l : List Command). paired l (rs ++ reply ∷ [])) (taken_one cs i command lt is) ∙ paired_more (take i cs) rs command reply (taken_length cs i lt ∙ sym many) in
     subst (λ (l : List Exchange). Heard a c from to l) (sym all) (heard_one a b c from at to (paired (take i cs) rs) command reply h read answers same place)
 
 -- ---- a reply that isn't read
@@ -102,9 +101,9 @@ ahead_unheard from at before mid after cs error here written kept still f =
       left = f.next ∷ f.left;
       parts = f.parts;
       broke = broke_unheard from before after f.mid f.done f.next f.left error
-        (subst (λ (l : List Command). Appends before.writing.bytes after.writing.bytes (frames l)) f.parts all)
-        (subst (λ (r : Side). Consumes r.bytes f.mid.bytes (replies f.done)) kept f.heard.read)
-        (f.heard.faults ∙ ap (λ (r : Side). r.faults) kept) f.heard.answered none;
+          (subst (λ (l : List Command). Appends before.writing.bytes after.writing.bytes (frames l)) f.parts all)
+          (subst (λ (r : Side). Consumes r.bytes f.mid.bytes (replies f.done)) kept f.heard.read)
+          (f.heard.faults ∙ ap (λ (r : Side). r.faults) kept) f.heard.answered none;
     }
 
 pub ahead_went : (from at to : ℕ) (before mid after : LinkState) (cs : List Command) (rs : List Reply) → at ≡ from → Appends before.writing.bytes mid.writing.bytes (frames cs) → mid.writing.faults ≡ before.writing.faults → mid.reading ≡ before.reading → after.writing ≡ mid.writing

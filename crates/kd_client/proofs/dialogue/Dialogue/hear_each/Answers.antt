@@ -1,5 +1,5 @@
 -- A reply more each time, or none.
-use Rattle.std.proofs.Common.{◌≡◌, refl, ◌∙◌, ap, length, arith}
+use Rattle.std.proofs.Common.{refl, ◌∙◌, ap, length, arith}
 use Rattle.kd_client.specs.Causes.{HeardFront}
 use Rattle.kd_client.proofs.Hearing.{heard_none, heard_more, heard_front, err_as}
 use Rattle.kd_client.proofs.dialogue.Dialogue.hear_each.Goals as goal

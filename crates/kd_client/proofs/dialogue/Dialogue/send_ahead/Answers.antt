@@ -1,5 +1,4 @@
 -- The frames go out whole, and then each reply is read; or one of the two breaks off.
-use Rattle.std.proofs.Common.{◌≡◌}
 use Rattle.kd_client.specs.declared.error.ClientError.TheVariants.{OutOfMemory}
 use Rattle.kd_client.specs.Causes.{BrokeAhead}
 use Rattle.kd_client.proofs.Hearing.{ahead_none, ahead_unheard, ahead_unsent, ahead_went, err_as}
@@ -24,9 +23,9 @@ returns-in_err-hear_each-clause-err g c =
     let after = g.L.Link.told c.hear_each.new.self.link in
     let e = c.in_err-hear_each.field-0.0 in
     err_as (BrokeAhead c.args.self.now.read before after c.args.commands.now) c.from_residual-in_err-hear_each.result e c.from_residual-in_err-hear_each.ensures.1
-      (ahead_unheard c.args.self.now.read c.write.new.self.read before mid after c.args.commands.now e c.in_ok-write.ensures.read c.in_ok-write.ensures.ok c.in_ok-write.ensures.kept c.in_err-hear_each.ensures.kept c.in_err-hear_each.ensures.err)
+    (ahead_unheard c.args.self.now.read c.write.new.self.read before mid after c.args.commands.now e c.in_ok-write.ensures.read c.in_ok-write.ensures.ok c.in_ok-write.ensures.kept c.in_err-hear_each.ensures.kept c.in_err-hear_each.ensures.err)
 
 pub returns-clause-ok : goal.returns-clause-ok
 returns-clause-ok g c =
     ahead_went c.args.self.now.read c.write.new.self.read c.hear_each.new.self.read (g.L.Link.told c.args.self.now.link) (g.L.Link.told c.write.new.self.link) (g.L.Link.told c.hear_each.new.self.link) c.args.commands.now c.hear_each.new.heard.items
-      c.in_ok-write.ensures.read c.in_ok-write.ensures.ok c.in_ok-write.ensures.faults c.in_ok-write.ensures.kept c.in_ok-hear_each.ensures.kept c.in_ok-hear_each.ensures.count c.in_ok-hear_each.ensures.heard
+    c.in_ok-write.ensures.read c.in_ok-write.ensures.ok c.in_ok-write.ensures.faults c.in_ok-write.ensures.kept c.in_ok-hear_each.ensures.kept c.in_ok-hear_each.ensures.count c.in_ok-hear_each.ensures.heard
