@@ -7,7 +7,7 @@ use crate::table::{bytes_of, number_of};
 use kd_client::{Client, ClientError, Next};
 use kd_outside::{MemLink, MemSink, MemSource};
 use kd_types::{ConnId, Cookie, Moment, Refusal};
-use kd_wire::{Command, Cut, Port, cut, read_command, write_reply};
+use kd_wire::{Command, Cut, Port, Reply, cut, read_command, write_reply};
 use std::alloc::Global;
 use std::test::Fail;
 
@@ -108,26 +108,29 @@ fn commands_of(alloc: Global, frames: &str) -> Result<Vec<Command>, Fail>
     Ok(commands)
 }
 
+/// What came of sending commands ahead.
+#[derive(Debug, Drop)]
+pub struct Sent {
+    pub replies: Vec<Reply>,
+    pub link: MemLink,
+    /// What the client ended with, if it did.
+    pub error: Option<ClientError>,
+}
+
 /// Sends the commands of these frames ahead of their replies.
-pub fn send_ahead(alloc: Global, link: MemLink, frames: &str) -> Result<Heard, Fail> {
+pub fn send_ahead(alloc: Global, link: MemLink, frames: &str) -> Result<Sent, Fail> {
     let client = client_of(alloc, link)?;
     let commands = commands_of(alloc, frames)?;
     if client.place() > 1 << 30 || commands.len() > 1 << 10 {
         return Err("too much for one call")?;
     }
     match client.send_ahead(alloc, &commands) {
-        Ok((client, heard)) => {
-            let mut replies = Vec::new(alloc);
-            for (command, reply) in commands.iter().zip(&heard) {
-                write_reply(&mut replies, 0, command.opcode().number(), reply)?;
-            }
-            Ok(Heard {
-                replies,
-                link: client.into_link(),
-                error: None,
-            })
-        }
-        Err((link, error)) => Ok(Heard {
+        Ok((client, replies)) => Ok(Sent {
+            replies,
+            link: client.into_link(),
+            error: None,
+        }),
+        Err((link, error)) => Ok(Sent {
             replies: Vec::new(alloc),
             link,
             error: Some(error),
